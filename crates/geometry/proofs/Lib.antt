@@ -1,0 +1,5 @@
+pub mod Tests
+pub mod Tabulate
+pub mod Painted
+pub mod Rows
+pub mod Cutting

@@ -1,0 +1,42 @@
+-- Tests and what they say.
+-- Assumes nothing.
+use mathlib.Core.Path.{_≡_, refl, sym}
+use mathlib.Core.Bool.{Bool, true, false, _&&_}
+use mathlib.Core.Logic.{_⊎_, inl, inr}
+use Prim.Native.Nat.{ℕ, _+_, _≤_, _<_}
+use native.Mathlib.Omega.{arith}
+use lib.Dec.{leb, ltb}
+use borrow.Author.Tests.{ltb-true, ltb-false, leb-true, leb-false, lt-ltb, le-ltb, le-leb, lt-leb}
+use Rattle.geometry.specs.Pixels.{within}
+
+-- case on a test, with its value in hand
+pub by-bool : {P : Type 0} (b : Bool) → (b ≡ true → P) → (b ≡ false → P) → P
+by-bool true t f = t refl
+by-bool false t f = f refl
+
+pub both : (a b : Bool) → a && b ≡ true → (a ≡ true) × (b ≡ true)
+both true b e = (refl, e)
+both false b e = let z : _≡_ {A = ℕ} 0 1 = cc in absurd (omega arith)
+
+pub and-yes : (a b : Bool) → a ≡ true → b ≡ true → a && b ≡ true
+and-yes a b p q = rw (p, q)
+
+pub same-bool : (a b : Bool) → (a ≡ true → b ≡ true) → (b ≡ true → a ≡ true) → a ≡ b
+same-bool true b f g = sym (f refl)
+same-bool false true f g = g refl
+same-bool false false f g = refl
+
+pub within-in : (a n k : ℕ) → within a n k ≡ true → (a ≤ k) × (k < a + n)
+within-in a n k e = let b = both (leb a k) (ltb k (a + n)) e in (leb-true a k (b .0), ltb-true k (a + n) (b .1))
+
+pub within-yes : (a n k : ℕ) → a ≤ k → k < a + n → within a n k ≡ true
+within-yes a n k l h = rw (le-leb a k l, lt-ltb k (a + n) h)
+
+pub within-before : (a n k : ℕ) → k < a → within a n k ≡ false
+within-before a n k h = rw (lt-leb a k h)
+
+pub within-past : (a n k : ℕ) → a + n ≤ k → within a n k ≡ false
+within-past a n k h = rw (le-leb a k (omega arith), le-ltb k (a + n) h)
+
+pub within-out : (a n k : ℕ) → within a n k ≡ false → (k < a) ⊎ (a + n ≤ k)
+within-out a n k e = by-bool (leb a k) (λ t. inr (ltb-false k (a + n) (rw t at e))) (λ f. inl (leb-false a k f))

@@ -1,0 +1,3 @@
+pub mod Bitwise
+pub mod ByMasks
+pub mod Laws

@@ -1,0 +1,3 @@
+pub mod RasterOperation
+pub mod Blend
+pub mod Masks

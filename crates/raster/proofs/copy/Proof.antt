@@ -1,0 +1,39 @@
+-- `raster::copy` meets its contract: refused, with nothing left, or at the cut rectangle.
+-- Assumes nothing.
+use mathlib.Core.Path.{sym, _∙_}
+use borrow.Author.Needs.{needs}
+use borrow.Author.Tests.{not-true, not-false}
+use Rattle.raster.proofs.Cuts.{rows-fit, copy-inside, copy-refused, copy-nothing, copy-cut}
+use Rattle.raster.proofs.copy.Statement.{statement}
+use Rattle.raster.proofs.copy.Tie as tie
+
+returns : tie.Need-returns
+returns c =
+    let a = c .before .before .before .args in
+    copy-refused (a .width) (a .rows) (a .sx) (a .sy) (a .area) (a .rop) (a .screen .now) (sym (c .before .rows-fit .ensures) ∙ not-true _ (c .if1 .taken))
+
+copy-cut-requires : tie.Need-copy-cut-requires
+copy-cut-requires c κs =
+    let a = c .before .before .before .before .before .before .before .before .args in
+    let fit = rows-fit (a .width) (a .rows) _ (sym (c .before .before .before .before .before .before .rows-fit .ensures) ∙ not-false _ (c .before .before .before .before .before .if1 .left)) in
+    let both = copy-inside (a .width) (a .rows) (a .sx) (a .sy) (a .area) _ (sym (c .before .before .before .before .cut-copy .ensures) ∙ c .before .before .c .given .1) _ (fit .long) in
+    (both .0, (both .1, fit .narrow))
+
+returns-2 : tie.Need-returns-2
+returns-2 c =
+    let a = c .before .before .before .before .before .before .before .before .before .before .before .args in
+    c .before .before .copy-cut .ensures
+    ∙ copy-cut (a .width) (a .rows) (a .sx) (a .sy) (a .area) (a .rop) (a .screen .now) _
+    (sym (c .before .before .before .before .before .before .before .before .before .rows-fit .ensures) ∙ not-false _ (c .before .before .before .before .before .before .before .before .if1 .left)) (sym (c .before .before .before .before .before .before .before .cut-copy .ensures) ∙ c .before .before .before .before .before .c .given .1)
+
+returns-3 : tie.Need-returns-3
+returns-3 c =
+    let a = c .before .before .before .before .before .before .args in
+    copy-nothing (a .width) (a .rows) (a .sx) (a .sy) (a .area) (a .rop) (a .screen .now)
+    (sym (c .before .before .before .before .rows-fit .ensures) ∙ not-false _ (c .before .before .before .if1 .left)) (sym (c .before .before .cut-copy .ensures) ∙ c .enum-told .given .1)
+
+pub copy-spec : {M : Type 1} → statement M
+copy-spec =
+    tie.close
+    (tie.spec (λ c κs. search needs) returns (λ c κs. search needs) (λ c. search needs) copy-cut-requires (λ c. search needs)
+    (λ c. search needs) returns-2 returns-3)

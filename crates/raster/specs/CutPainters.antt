@@ -1,0 +1,20 @@
+-- The painters at a rectangle that is cut already: what their inner functions do. Nothing here has to be believed.
+use Prim.Native.Nat.{ℕ}
+use mathlib.Core.List.{List}
+use lib.ListN.{getD}
+use Rattle.geometry.specs.declared.Rect.{Rect}
+use Rattle.geometry.specs.Pixels.{placeOf, inRect, painted}
+use Rattle.pixel.specs.RasterOperation.{rasterOp}
+use Rattle.raster.specs.Painters.{sourceColumn, sourceRow}
+
+unfoldable pub filledCut : ℕ → Rect → ℕ → ℕ → List ℕ → List ℕ
+filledCut width r colour rop old =
+    painted (inRect width (r .x) (r .y) (r .w) (r .h)) (λ k. rasterOp rop colour (getD old k 0)) old
+
+unfoldable pub updatedCut : ℕ → Rect → List ℕ → List ℕ → List ℕ
+updatedCut width r framebuffer old = painted (inRect width (r .x) (r .y) (r .w) (r .h)) (λ k. getD framebuffer k 0) old
+
+unfoldable pub copiedCut : ℕ → ℕ → ℕ → Rect → ℕ → List ℕ → List ℕ
+copiedCut width sx sy r rop old =
+    painted (inRect width (r .x) (r .y) (r .w) (r .h))
+    (λ k. rasterOp rop (getD old (placeOf width (sourceColumn width sx (r .x) k) (sourceRow width sy (r .y) k)) 0) (getD old k 0)) old

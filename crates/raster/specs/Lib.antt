@@ -1,0 +1,2 @@
+pub mod Painters
+pub mod CutPainters
