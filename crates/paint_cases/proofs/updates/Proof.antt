@@ -1,0 +1,26 @@
+use Prim.Native.Nat.{_≤_, _-_}
+use mathlib.Core.Path.{_≡_}
+use lib.ListN.{length}
+use borrow.Author.Needs.{needs}
+use Rattle.paint_cases.proofs.updates.Statement.{statement}
+use Rattle.paint_cases.proofs.updates.Tie as tie
+
+abbrev Inv-loop : tie.InvT-loop
+Inv-loop framebuffer screen₀ state₀ n₀ screen state n = (length screen ≡ length screen₀) × (n ≤ 60)
+
+abbrev μ-loop : tie.MeasureT-loop
+μ-loop framebuffer screen₀ state₀ n₀ screen state n = 60 - n
+
+pub updates-spec : {M : Type 1} → statement M
+updates-spec =
+    tie.close
+    (tie.spec
+    Inv-loop
+    μ-loop
+    (λ c. search needs)
+    (λ c κs. search needs)
+    (λ c. search needs)
+    (λ c. search needs)
+    (λ c. search needs)
+    (λ c. search needs)
+    (λ c. search needs))
