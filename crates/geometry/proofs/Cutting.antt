@@ -1,15 +1,14 @@
 -- What a cut means for pixels: the rectangle that is left has exactly the pixels that lie inside, and nothing is left exactly where there is none.
 -- Assumes nothing.
 use mathlib.Core.Path.{_≡_, refl}
-use mathlib.Core.Bool.{true, false, _&&_}
+use mathlib.Core.Bool.{true, false}
 use mathlib.Core.Logic.{_⊎_, inl, inr, ⊎-elim}
 use Prim.Native.Nat.{ℕ, _+_, _-_, _/_, _%_, _≤_, _<_}
 use native.Mathlib.Nat.{mod-lt}
 use native.Mathlib.Omega.{arith}
 use lib.Dec.{eqb, ltb}
-use borrow.Author.Tests.{eqb-true, eqb-false, eq-eqb, ne-eqb, ltb-true, lt-ltb}
+use borrow.Author.Tests.{eqb-true, eqb-false, ne-eqb, ltb-true, lt-ltb}
 use Rattle.geometry.specs.declared.Rect.{Rect}
-use Rattle.geometry.specs.declared.Cut.{Cut}
 use Rattle.geometry.specs.declared.Cut.the-variants.{Rectangle, Nothing}
 use Rattle.geometry.specs.Rectangle.{spanBelow, cutOf, cutTo, cutCopy}
 use Rattle.geometry.specs.Pixels.{within, inRect, inArea}

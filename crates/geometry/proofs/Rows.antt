@@ -1,11 +1,11 @@
 -- The rows of a rectangle, a row in pieces, and copies of both, from the front or from the back.
 -- Assumes nothing.
-use mathlib.Core.Path.{_≡_, refl, sym, ap, _∙_}
+use mathlib.Core.Path.{_≡_, refl, sym, _∙_}
 use mathlib.Core.Bool.{Bool, true, false, and-false}
 use mathlib.Core.Logic.{⊎-elim}
 use mathlib.Core.List.{List, []}
 use Prim.Native.Nat.{ℕ, _+_, _-_, _*_, _/_, _%_, _^_, _≤_, _<_}
-use native.Mathlib.Nat.{add-mul, one-mul, mul-le-mul-right, div-eq-of-lt-le, div-add-mod', mod-lt}
+use native.Mathlib.Nat.{add-mul, one-mul, mul-le-mul-right, mul-comm, div-eq-of-lt-le, div-add-mod'}
 use native.Mathlib.Omega.{arith}
 use lib.ListN.{length, getD}
 use lib.Dec.{eqb, ltb}
@@ -35,6 +35,12 @@ pub place-of-pixel : (width k : ℕ) → placeOf width (columnOf width k) (rowOf
 place-of-pixel width k = div-add-mod' k width
 
 -- ---- places in a row
+
+-- w by h pixels at (x, y) that end within the width and the rows
+pub inside : (width rows x y w h n : ℕ) → x + w ≤ width → y + h ≤ rows → width * rows ≤ n → Inside width x y w h n
+inside width rows x y w h n across down long =
+    let d : (y + h) * width ≤ rows * width = mul-le-mul-right width down in
+    record { across = across; down = omega (arith, mul-comm width rows) }
 
 -- row j of a rectangle lies in the list
 pub row-room : {width x y w h n : ℕ} → Inside width x y w h n → {j : ℕ} → j < h → (y + j) * width + x + w ≤ n

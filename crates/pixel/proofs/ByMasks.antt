@@ -9,7 +9,7 @@ use lib.Dec.{T, eqb, eqb→eq}
 use borrow.Author.Tests.{eqb-true, eqb-false, eq-eqb, ne-eqb}
 use Rattle.pixel.specs.RasterOperation.{rasterOp}
 use Rattle.pixel.specs.Masks.{reducePixel, reducedOf, mergePixel, masksOf}
-use Rattle.pixel.proofs.Bitwise.{by-bit, by-bits, differ-bit, source, dest, zeros, inverse, both-and, both-xor, ruled, agree, rasterBit, raster}
+use Rattle.pixel.proofs.Bitwise.{by-bit, by-bits, source, dest, zeros, inverse, both-and, both-xor, ruled, agree, rasterBit, raster}
 
 -- a function of one bit, by a mask to keep and a mask to flip
 picked : (P : ℕ → ℕ) → P 1 < 2 → P 0 < 2 → (y : ℕ) → y < 2 → differ (min y (differ (P 1) (P 0))) (P 0) ≡ P y

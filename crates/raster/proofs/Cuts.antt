@@ -1,26 +1,24 @@
 -- A painter of the whole rectangle is the painter of what the cut leaves.
 -- Assumes nothing.
-use mathlib.Core.Path.{_≡_, refl, sym, ap, _∙_}
-use mathlib.Core.Bool.{Bool, true, false, _&&_, cond}
-use mathlib.Core.Logic.{_⊎_}
+use mathlib.Core.Path.{_≡_, refl, sym, _∙_}
+use mathlib.Core.Bool.{true, false, _&&_}
 use mathlib.Core.List.{List}
 use Prim.Native.Nat.{ℕ, _+_, _-_, _*_, _/_, _%_, _≤_, _<_}
-use native.Mathlib.Nat.{mod-lt, mul-le-mul-right, mul-comm}
+use native.Mathlib.Nat.{mod-lt}
 use native.Mathlib.Omega.{arith}
 use lib.Dec.{ltb, leb}
-use lib.ListN.{length, getD}
+use lib.ListN.{length}
 use borrow.Author.Tests.{ltb-true, leb-true, lt-ltb, le-leb}
 use Rattle.geometry.specs.declared.Rect.{Rect}
-use Rattle.geometry.specs.declared.Cut.{Cut}
 use Rattle.geometry.specs.declared.Cut.the-variants.{Rectangle, Nothing}
-use Rattle.geometry.specs.Rectangle.{spanBelow, cutOf, cutTo, cutCopy}
-use Rattle.geometry.specs.Pixels.{inRect, inArea, painted}
+use Rattle.geometry.specs.Rectangle.{spanBelow, cutTo, cutCopy}
+use Rattle.geometry.specs.Pixels.{inRect, inArea}
 use Rattle.geometry.specs.Parts.{Inside}
-use Rattle.geometry.proofs.Tests.{by-bool, both, and-yes, same-bool}
+use Rattle.geometry.proofs.Tests.{both, and-yes, same-bool}
 use Rattle.geometry.proofs.Painted.{painted-same, painted-region, none-painted, painted-if, refused-if}
-use Rattle.geometry.proofs.Cutting.{rect, cut-rectangle, cut-nothing, in-rect, rect-in, in-none, area-cut}
-use Rattle.pixel.specs.RasterOperation.{rasterOp}
-use Rattle.raster.specs.Painters.{rowsFit, filled, updated, sourceColumn, sourceRow, moves, copied}
+use Rattle.geometry.proofs.Rows.{inside}
+use Rattle.geometry.proofs.Cutting.{cut-rectangle, cut-nothing, in-rect, rect-in, in-none, area-cut}
+use Rattle.raster.specs.Painters.{rowsFit, filled, updated, moves, copied}
 use Rattle.raster.specs.CutPainters.{filledCut, updatedCut, copiedCut}
 
 pub record Fit (width rows n : ℕ) : Type 0 where
@@ -36,12 +34,6 @@ rows-fit width rows n e =
     record { wide = ltb-true 0 width (b .0); narrow = leb-true width 2560 (b .1); long = leb-true (width * rows) n (a .1) }
 
 -- ---- where
-
--- w by h pixels at (x, y) that end within the width and the rows
-inside : (width rows x y w h n : ℕ) → x + w ≤ width → y + h ≤ rows → width * rows ≤ n → Inside width x y w h n
-inside width rows x y w h n across down long =
-    let d : (y + h) * width ≤ rows * width = mul-le-mul-right width down in
-    record { across = across; down = omega (arith, mul-comm width rows) }
 
 module _ (width rows : ℕ) (r a : Rect) (is : cutTo r width rows ≡ Rectangle a) where
   pub cut-inside : (n : ℕ) → width * rows ≤ n → Inside width (a .x) (a .y) (a .w) (a .h) n

@@ -10,7 +10,6 @@ use Rattle.geometry.specs.declared.Rect.{Rect}
 use Rattle.geometry.specs.Pixels.{placeOf, inArea}
 use Rattle.geometry.proofs.Tests.{by-bool}
 use Rattle.geometry.proofs.Painted.{getD-painted, painted-same, painted-if, refused-if, length-painted-if, outside-if, same-if}
-use Rattle.pixel.specs.RasterOperation.{rasterOp}
 use Rattle.pixel.proofs.Laws.{copy-stores-source, no-operation}
 use Rattle.raster.specs.Painters.{rowsFit, filled, updated, sourceColumn, sourceRow, moves, copied}
 

@@ -1,12 +1,11 @@
 -- `raster::copy_cut` meets its contract. The invariant: the rows done so far are painted.
 -- Assumes nothing.
-use mathlib.Core.Path.{_≡_, sym}
 use Prim.Native.Nat.{ℕ, _+_, _*_, _-_, _≤_, _<_}
 use native.Mathlib.Omega.{arith}
 use lib.ListN.{length}
 use borrow.Author.Needs.{needs}
 use Rattle.geometry.specs.Pixels.{inRect}
-use Rattle.geometry.specs.Parts.{doneFrom, Ordered, after}
+use Rattle.geometry.specs.Parts.{doneFrom, Ordered}
 use Rattle.geometry.proofs.Painted.{Done}
 use Rattle.geometry.proofs.Rows.{row-room, rows-none, rows-ordered, places-ordered, copiedAt, row-copied, next-fits, rows-done}
 use Rattle.pixel.specs.RasterOperation.{rasterOp}

@@ -1,8 +1,6 @@
 -- `raster::fill_row` meets its contract: where nothing is kept, the pixel is the flip.
 -- Assumes nothing.
-use mathlib.Core.Path.{_≡_, _∙_, ap}
 use borrow.Author.Needs.{needs}
-use Rattle.geometry.specs.Pixels.{tabulate}
 use Rattle.pixel.proofs.ByMasks.{nothing-kept}
 use Rattle.raster.proofs.fill_row.Statement.{statement}
 use Rattle.raster.proofs.fill_row.Tie as tie

@@ -1,10 +1,8 @@
 -- `raster::move_row` meets its contract: the line holds the source row, and the destination row, lent and back, is painted from it.
 -- Assumes nothing.
-use mathlib.Core.Path.{_≡_, refl, sym, ap, _∙_}
-use mathlib.Core.List.{List, []}
-use Prim.Native.Nat.{ℕ, _+_, _-_, _<_, _≤_}
+use mathlib.Core.Path.{_≡_}
+use Prim.Native.Nat.{_+_, _-_}
 use native.Mathlib.Omega.{arith}
-use lib.ListN.{length, getD}
 use borrow.Author.Needs.{needs}
 use Rattle.geometry.proofs.Rows.{row-moved}
 use Rattle.raster.proofs.move_row.Statement.{statement}

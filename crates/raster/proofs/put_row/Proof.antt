@@ -1,9 +1,7 @@
 -- `raster::put_row` meets its contract: the loop stores the source from the front.
 -- Assumes nothing.
-use mathlib.Core.Path.{_≡_, refl, ap, _∙_}
-use mathlib.Core.List.{List}
-use Prim.Native.Nat.{ℕ, _-_, _≤_}
-use native.Mathlib.Omega.{arith}
+use mathlib.Core.Path.{refl}
+use Prim.Native.Nat.{_-_}
 use lib.ListN.{length, getD}
 use borrow.Author.Needs.{needs}
 use Rattle.geometry.proofs.Tabulate.{Front, front-start, front-step, front-end}

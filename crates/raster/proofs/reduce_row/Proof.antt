@@ -1,6 +1,6 @@
 -- `raster::reduce_row` meets its contract: the loop stores each pixel's new value from the front.
 -- Assumes nothing.
-use mathlib.Core.Path.{_≡_, ap, _∙_}
+use mathlib.Core.Path.{ap, _∙_}
 use mathlib.Core.List.{List}
 use Prim.Native.Nat.{ℕ, _-_}
 use lib.ListN.{length, getD}
