@@ -1,0 +1,30 @@
+-- `cursor::overlay` meets its contract: refused, or by the spans of its columns and its rows.
+-- Assumes nothing.
+use borrow.Author.Needs.{needs}
+use Rattle.cursor.proofs.Spans.{seen-inside, overlay-refused, overlay-is-seen}
+use Rattle.cursor.proofs.overlay.Statement.{statement}
+use Rattle.cursor.proofs.overlay.Tie as tie
+
+returns : tie.Need-returns
+returns c =
+    let a = c .before .before .before .before .args in
+    overlay-refused (a .width) (a .rows) (a .shape) (a .x) (a .y) (a .image .now) (a .picture .now) _ (c .before .overlay-fits .ensures) (c .if1 .taken)
+
+overlay-seen-requires : tie.Need-overlay-seen-requires
+overlay-seen-requires c κs =
+    let a = c .before .before .before .before .before .before .before .args in
+    seen-inside (a .width) (a .rows) (a .shape) (a .x) (a .y) (a .image .now) (a .picture .now) _ (c .before .before .before .before .overlay-fits .ensures)
+    (c .before .before .before .if1 .left) _ _ (c .before .before .span-of .ensures) (c .before .span-of2 .ensures)
+
+returns-2 : tie.Need-returns-2
+returns-2 c =
+    let spans = c .before .before .before .before in
+    let fit = spans .before .before .before in
+    let a = fit .before .before .before .args in
+    overlay-is-seen (a .width) (a .rows) (a .shape) (a .x) (a .y) (a .image .now) (a .picture .now) _ (fit .overlay-fits .ensures)
+    (spans .before .before .if1 .left) _ _ (spans .before .span-of .ensures) (spans .span-of2 .ensures) _ (c .before .before .overlay-seen .ensures)
+
+pub overlay-spec : {M : Type 1} → statement M
+overlay-spec =
+    tie.close
+    (tie.spec (λ c κs. search needs) returns (λ c κs. search needs) (λ c κs. search needs) overlay-seen-requires (λ c. search needs) returns-2)
