@@ -1,0 +1,108 @@
+-- When ring words are accepted, condition by condition, for readers and for the crates above: exactly when `Usable` holds of them.
+-- Assumes nothing.
+use mathlib.Core.Path.{_≡_, refl, ap}
+use mathlib.Core.Bool.{Bool, true, false, _&&_, cond, false≢true}
+use mathlib.Core.List.{List}
+use Prim.Native.Nat.{ℕ, _+_, _*_, _/_, _%_, _≤_, _<_}
+use native.Mathlib.Omega.{arith}
+use lib.ListN.{length}
+use borrow.Author.Tests.{ltb-true, leb-true, eqb-true, lt-ltb, le-leb, eq-eqb}
+use Rattle.ring.specs.declared.Ring.{Ring}
+use Rattle.ring.specs.declared.Acceptance.the-variants.{Accepted, Refused}
+use Rattle.ring.specs.Acceptance.{minOf, maxOf, nextOf, stopOf, offsetUsable, boundsUsable, usable, accepted}
+
+-- document 01's conditions, in bytes
+pub record Usable (ring : List ℕ) : Type 0 where
+  pub there : 4 ≤ length ring
+  pub min-word : minOf ring % 4 ≡ 0
+  pub max-word : maxOf ring % 4 ≡ 0
+  pub next-word : nextOf ring % 4 ≡ 0
+  pub stop-word : stopOf ring % 4 ≡ 0
+  pub low : 16 ≤ minOf ring
+  pub fits : maxOf ring ≤ 4 * length ring
+  pub size : minOf ring + 10240 ≤ maxOf ring
+  pub next-low : minOf ring ≤ nextOf ring
+  pub next-high : nextOf ring < maxOf ring
+  pub stop-low : minOf ring ≤ stopOf ring
+  pub stop-high : stopOf ring < maxOf ring
+
+pub both : (a b : Bool) → a && b ≡ true → (a ≡ true) × (b ≡ true)
+both true b e = (refl, e)
+both false b e = absurd (false≢true e)
+
+pub usable-when : (ring : List ℕ) → usable ring ≡ true → Usable ring
+unfolding usable boundsUsable offsetUsable
+usable-when ring e =
+    let there = both _ _ e in
+    let bounds = both _ _ (there .1) in
+    let min-word = both _ _ (bounds .0) in
+    let max-word = both _ _ (min-word .1) in
+    let low = both _ _ (max-word .1) in
+    let fits = both _ _ (low .1) in
+    let offsets = both _ _ (bounds .1) in
+    let next-word = both _ _ (offsets .0) in
+    let next = both _ _ (next-word .1) in
+    let stop-word = both _ _ (offsets .1) in
+    let stop = both _ _ (stop-word .1) in
+    record {
+      there = leb-true _ _ (there .0);
+      min-word = eqb-true _ _ (min-word .0);
+      max-word = eqb-true _ _ (max-word .0);
+      next-word = eqb-true _ _ (next-word .0);
+      stop-word = eqb-true _ _ (stop-word .0);
+      low = leb-true _ _ (low .0);
+      fits = leb-true _ _ (fits .0);
+      size = leb-true _ _ (fits .1);
+      next-low = leb-true _ _ (next .0);
+      next-high = ltb-true _ _ (next .1);
+      stop-low = leb-true _ _ (stop .0);
+      stop-high = ltb-true _ _ (stop .1);
+    }
+
+pub when-usable : (ring : List ℕ) → Usable ring → usable ring ≡ true
+unfolding usable boundsUsable offsetUsable
+when-usable ring u =
+    rw (
+      le-leb _ _ (u .there),
+      eq-eqb _ _ (u .min-word),
+      eq-eqb _ _ (u .max-word),
+      le-leb _ _ (u .low),
+      le-leb _ _ (u .fits),
+      le-leb _ _ (u .size),
+      eq-eqb _ _ (u .next-word),
+      le-leb _ _ (u .next-low),
+      lt-ltb _ _ (u .next-high),
+      eq-eqb _ _ (u .stop-word),
+      le-leb _ _ (u .stop-low),
+      lt-ltb _ _ (u .stop-high),
+    )
+
+pub accepted-when : (ring : List ℕ) → usable ring ≡ true
+    → accepted ring ≡ Accepted (record { min = minOf ring / 4; max = maxOf ring / 4; stop = stopOf ring / 4 })
+unfolding accepted
+accepted-when ring e = rw e
+
+pub refused-when : (ring : List ℕ) → usable ring ≡ false → accepted ring ≡ Refused
+unfolding accepted
+refused-when ring e = rw e
+
+chosen : (b : Bool) (r g : Ring) → cond b (Accepted r) Refused ≡ Accepted g → (b ≡ true) × (r ≡ g)
+chosen true r g e = (refl, cc)
+chosen false r g e = let z : _≡_ {A = ℕ} 0 1 = cc in let no : ⊥ = omega arith in absurd no
+
+-- the remembered words are a quarter of the bytes, with nothing lost
+pub accepted-ring : (ring : List ℕ) (g : Ring) → accepted ring ≡ Accepted g
+    → Usable ring × (g .min * 4 ≡ minOf ring) × (g .max * 4 ≡ maxOf ring) × (g .stop * 4 ≡ stopOf ring)
+unfolding accepted
+accepted-ring ring g e =
+    let c = chosen (usable ring) _ g e in
+    let u = usable-when ring (c .0) in
+    (u, omega (arith, ap (λ (r : Ring). r .min) (c .1)), omega (arith, ap (λ (r : Ring). r .max) (c .1)), omega (arith, ap (λ (r : Ring). r .stop) (c .1)))
+
+not-chosen : (b : Bool) (r : Ring) → cond b (Accepted r) Refused ≡ Refused → b ≡ false
+not-chosen true r e = cc
+not-chosen false r e = refl
+
+pub refused-ring : (ring : List ℕ) → accepted ring ≡ Refused → usable ring ≡ false
+unfolding accepted
+refused-ring ring e = not-chosen (usable ring) _ e

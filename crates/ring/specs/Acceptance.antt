@@ -1,0 +1,40 @@
+-- When ring words are accepted: document 01, "Registers", CONFIG_DONE 1.
+use Prim.Native.Nat.{ℕ, _+_, _*_, _/_, _%_}
+use mathlib.Core.Bool.{Bool, cond, _&&_}
+use mathlib.Core.List.{List}
+use lib.Dec.{eqb, ltb, leb}
+use lib.ListN.{length, getD}
+use Rattle.ring.specs.declared.Acceptance.{Acceptance}
+use Rattle.ring.specs.declared.Acceptance.the-variants.{Accepted, Refused}
+
+-- "Ring words 0 to 3 are MIN, MAX, NEXT_CMD, STOP, in bytes"
+abbrev pub minOf : List ℕ → ℕ
+minOf ring = getD ring 0 0
+
+abbrev pub maxOf : List ℕ → ℕ
+maxOf ring = getD ring 1 0
+
+abbrev pub nextOf : List ℕ → ℕ
+nextOf ring = getD ring 2 0
+
+abbrev pub stopOf : List ℕ → ℕ
+stopOf ring = getD ring 3 0
+
+-- "All are multiples of 4; .. NEXT_CMD and STOP lie from MIN to below MAX"
+unfoldable pub offsetUsable : ℕ → ℕ → ℕ → Bool
+offsetUsable min max offset = eqb (offset % 4) 0 && (leb min offset && ltb offset max)
+
+-- "All are multiples of 4; MIN ≥ 16; MAX ≤ M; MAX − MIN ≥ 10,240". M is four times the words of the ring memory.
+unfoldable pub boundsUsable : ℕ → ℕ → ℕ → Bool
+boundsUsable words min max = eqb (min % 4) 0 && (eqb (max % 4) 0 && (leb 16 min && (leb max (4 * words) && leb (min + 10240) max)))
+
+unfoldable pub usable : List ℕ → Bool
+usable ring =
+    leb 4 (length ring)
+    && (boundsUsable (length ring) (minOf ring) (maxOf ring)
+    && (offsetUsable (minOf ring) (maxOf ring) (nextOf ring) && offsetUsable (minOf ring) (maxOf ring) (stopOf ring)))
+
+-- "else 33. Accepted: MIN, MAX and STOP are remembered": here in words, a quarter of the bytes.
+unfoldable pub accepted : List ℕ → Acceptance
+accepted ring =
+    cond (usable ring) (Accepted (record { min = minOf ring / 4; max = maxOf ring / 4; stop = stopOf ring / 4 })) Refused
