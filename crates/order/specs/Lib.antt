@@ -1,0 +1,4 @@
+pub mod Straight
+pub mod Table
+pub mod Claim
+pub mod Queue
