@@ -34,27 +34,23 @@ def declared_in_source(crate):
 
 
 def declared_in_antt(file):
-    """Signatures, records and data types at the top level, or at the margin of a 'module _' section."""
+    """Signatures, records and data types at the top level, or at the margin of a 'module _' section, which may stand in another."""
     names = set()
-    section = False
-    margin = None
+    margins = [0]  # of the sections that a line stands in; None: the section's first line tells
     for line in file.read_text().splitlines():
         if not line.strip() or line.lstrip().startswith("--"):
             continue
         indent = len(line) - len(line.lstrip())
-        if indent == 0:
-            section = line.startswith("module _") or line.startswith("pub module _")
-            margin = 0
-            if section:
-                margin = None
-                continue
-        elif not section:
-            continue
-        elif margin is None:
-            margin = indent
-        if indent != margin:
+        if margins[-1] is None:
+            margins[-1] = indent
+        while indent < margins[-1]:
+            margins.pop()
+        if indent != margins[-1]:
             continue
         words = re.sub(r"^(?:(?:pub|abbrev|unfoldable) )+", "", line.strip())
+        if words.startswith("module _"):
+            margins.append(None)
+            continue
         declared = re.match(r"(?:record|data) (\S+)", words) or re.match(r"(\S+) :(?: |$)", words)
         if declared:
             names.add(declared.group(1))

@@ -1,0 +1,5 @@
+pub mod Laws
+pub mod Kept
+pub mod Refusals
+pub mod Readings
+pub mod Negotiation

@@ -1,0 +1,6 @@
+pub mod Device
+pub mod Answers
+pub mod Registers
+pub mod Picture
+pub mod Offscreen
+pub mod Fence

@@ -1,0 +1,35 @@
+-- A device's picture: document 01, "The cursor plane".
+use Prim.Native.Nat.{ℕ, _*_}
+use mathlib.Core.Bool.{Bool, cond, _&&_}
+use mathlib.Core.List.{List}
+use lib.Dec.{eqb, leb}
+use lib.ListN.{length}
+use Rattle.picture.specs.declared.Over.{Over}
+use Rattle.picture.specs.declared.Over.the-variants.{Nothing, Cursor as Appears}
+use Rattle.picture.specs.Picture.{composed}
+use Rattle.adapter.specs.declared.Defined.{Defined}
+use Rattle.adapter.specs.declared.Defined.the-variants.{Undefined, Cursor}
+use Rattle.adapter.specs.declared.Device.{Device}
+use Rattle.adapter.specs.Device.{pixelsOf, widthOf, heightOf, made}
+use Rattle.adapter.specs.Answers.{Pictured}
+
+-- "In a picture the cursor appears if shown and its remembered id is that of the defined cursor": at the remembered X and Y.
+unfoldable pub cursorOver : Device → Defined → Over
+cursorOver d Undefined = Nothing
+cursorOver d (Cursor s) =
+    cond (d .plane .shown) (cond (eqb (d .plane .id) (s .id)) (Appears (record { shape = s; x = d .plane .x; y = d .plane .y })) Nothing) Nothing
+
+-- "the screen (P), the cursor image (4,096), and for a finished picture an output (P)"
+unfoldable pub lengthsGood : ℕ → ℕ → ℕ → ℕ → Bool
+lengthsGood pixels screen image output = eqb screen pixels && (eqb image 4096 && eqb output pixels)
+
+-- "a picture 20, 24"; 24 is "width·height above P". A device that no call can have made answers 24.
+unfoldable pub pictureOf : Device → List ℕ → List ℕ → List ℕ → Pictured
+pictureOf d screen image output =
+    cond (made d)
+    (cond (lengthsGood (pixelsOf d) (length screen) (length image) (length output))
+    (cond (leb (widthOf d * heightOf d) (pixelsOf d))
+    (record { answer = 0; output = composed (widthOf d) (heightOf d) (cursorOver d (d .defined)) screen image output })
+    (record { answer = 24; output = output }))
+    (record { answer = 20; output = output }))
+    (record { answer = 24; output = output })

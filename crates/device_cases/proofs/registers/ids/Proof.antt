@@ -1,0 +1,29 @@
+use Prim.Native.Nat.{_≤_, _-_}
+use borrow.Author.Needs.{needs}
+use Rattle.device_cases.proofs.registers.ids.Statement.{statement}
+use Rattle.device_cases.proofs.registers.ids.Tie as tie
+
+abbrev Inv-loop : tie.InvT-loop
+Inv-loop ring after₀ n₀ after n = n ≤ 11
+
+abbrev μ-loop : tie.MeasureT-loop
+μ-loop ring after₀ n₀ after n = 11 - n
+
+pub ids-spec : {M : Type 1} → statement M
+ids-spec =
+    tie.close
+    (tie.spec
+    Inv-loop
+    μ-loop
+    (λ c κs. search needs)
+    (λ c κs. search needs)
+    (λ c κs. search needs)
+    (λ c κs. search needs)
+    (λ c κs. search needs)
+    (λ c. search needs)
+    (λ c κs. search needs)
+    (λ c κs. search needs)
+    (λ c. search needs)
+    (λ c. search needs)
+    (λ c. search needs)
+    (λ c. search needs))

@@ -1,0 +1,26 @@
+use Prim.Native.Nat.{_≤_, _-_}
+use borrow.Author.Needs.{needs}
+use Rattle.device_cases.proofs.registers.makings.Statement.{statement}
+use Rattle.device_cases.proofs.registers.makings.Tie as tie
+
+abbrev Inv-loop : tie.InvT-loop
+Inv-loop n₀ n = n ≤ 20
+
+abbrev μ-loop : tie.MeasureT-loop
+μ-loop n₀ n = 20 - n
+
+pub makings-spec : {M : Type 1} → statement M
+makings-spec =
+    tie.close
+    (tie.spec
+    Inv-loop
+    μ-loop
+    (λ c. search needs)
+    (λ c κs. search needs)
+    (λ c κs. search needs)
+    (λ c. search needs)
+    (λ c. search needs)
+    (λ c. search needs)
+    (λ c κs. search needs)
+    (λ c κs. search needs)
+    (λ c. search needs))
