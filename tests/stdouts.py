@@ -1,5 +1,6 @@
 #!/usr/bin/env python3
-"""stdouts.py: for each program of tests/programs.txt, what the model prints is its file 'stdout', to which rt holds the program."""
+"""stdouts.py: for each program of tests/programs.txt, what the model prints is its file 'stdout', to which rt holds the program.
+A program with such a file that is not listed is a failure."""
 import subprocess
 import sys
 
@@ -41,6 +42,9 @@ def main():
     names = (ROOT / "tests" / "programs.txt").read_text().split()
     for name in names:
         check_program(name)
+    for stdout in sorted((ROOT / "crates").glob("*/stdout")):
+        if stdout.parent.name not in names:
+            report.fail(f"{stdout.parent.name}: it has a file stdout, and tests/programs.txt does not list it: no model computes what it prints")
     if not names:
         report.fail("tests/programs.txt lists no program")
     report.end(f"{len(names)} programs, {report.failures} failures")

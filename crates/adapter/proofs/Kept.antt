@@ -26,8 +26,10 @@ use Rattle.adapter.specs.declared.Plane.{Plane}
 use Rattle.adapter.specs.declared.Condition.{Condition}
 use Rattle.adapter.specs.declared.Condition.the-variants.{Idle, Running, Faulted}
 use Rattle.adapter.specs.declared.Device.{Device}
-use Rattle.adapter.specs.declared.Making.the-variants.{Made, Refused}
-use Rattle.adapter.specs.Device.{memoryOf, pixelsOf, widthOf, heightOf, sizesGood, fresh, madeOf, modeGood, ringGood, conditionGood, shapeGood, definedGood, made, withRegisters, withPlane, withBusy, withCondition, cursorDefined}
+use mathlib.Core.Option.{Option, none, some}
+use Rattle.adapter.specs.Answers.{madeOf}
+use Rattle.cursor.specs.Plane.{shapeGood}
+use Rattle.adapter.specs.Device.{memoryOf, pixelsOf, widthOf, heightOf, sizesGood, fresh, modeGood, ringGood, conditionGood, definedGood, made, withRegisters, withPlane, withBusy, withCondition, cursorDefined}
 use Rattle.adapter.specs.Answers.{Outcome}
 use Rattle.adapter.specs.Registers.{taken, refused, isId, idWritten, enableWritten, widthWritten, heightWritten, idled, configured, unconfigured, acceptedWritten, configDoneWritten, running, synced, cursorOnWritten, writableWritten, writtenBy, written}
 use Rattle.adapter.proofs.Laws.{WellFormed}
@@ -57,19 +59,20 @@ unfolding made modeGood conditionGood definedGood
 fresh-made memory pixels e = rw e
 
 -- what is made is the fresh device, and well-formed
-pub make-made : (memory pixels : ℕ) (d : Device) → madeOf memory pixels ≡ Made d → (made d ≡ true) × (d ≡ fresh memory pixels)
+pub make-made : (memory pixels : ℕ) (d : Device) → madeOf memory pixels .device ≡ some d → (made d ≡ true) × (d ≡ fresh memory pixels)
 unfolding madeOf
 make-made memory pixels d e =
     by-bool (sizesGood memory pixels)
     (λ t.
-    let m : Made (fresh memory pixels) ≡ Made d = rw t at e in
+    let m : some (fresh memory pixels) ≡ some d = rw t at e in
     let eq : fresh memory pixels ≡ d = cc in (rw eq at (fresh-made memory pixels t), cc))
-    (λ f. let m : Refused ≡ Made d = rw f at e in let z : _≡_ {A = ℕ} 0 1 = cc in absurd (omega arith))
+    (λ f. let m : _≡_ {A = Option Device} none (some d) = rw f at e in let z : _≡_ {A = ℕ} 0 1 = cc in absurd (omega arith))
 
-pub make-refused : (memory pixels : ℕ) → (madeOf memory pixels ≡ Refused) ↔ (sizesGood memory pixels ≡ false)
+-- 34 exactly when M or P is none of those allowed
+pub make-refused : (memory pixels : ℕ) → (madeOf memory pixels .answer ≡ 34) ↔ (sizesGood memory pixels ≡ false)
 unfolding madeOf
 make-refused memory pixels =
-    (λ e. by-bool (sizesGood memory pixels) (λ t. let m : Made (fresh memory pixels) ≡ Refused = rw t at e in cc) (λ f. f), λ f. rw f)
+    (λ e. by-bool (sizesGood memory pixels) (λ t. let m : 0 ≡ 34 = rw t at e in absurd (omega arith)) (λ f. f), λ f. rw f)
 
 -- ---- what a write leaves
 

@@ -77,8 +77,8 @@ pub record Negotiated : Type 0 where
   pub agreed : Option ℕ
   pub device : Device
 
--- "Write into SVGA_REG_ID the maximum SVGA_ID the driver supports. Read from SVGA_REG_ID. Check if it is the value you wrote. If yes, the
--- device supports it. If no, decrement and goto loop." At most so many times; none agreed on where the times run out.
+-- The source text's loop: "Write into SVGA_REG_ID the maximum SVGA_ID_* the driver supports. Read from SVGA_REG_ID. Check if it is the value you
+-- wrote. If yes, VMware SVGA device supports it. If no, decrement SVGA_ID_* and goto loop". At most so many times; none agreed on where the times run out.
 unfoldable pub negotiated : ℕ → Device → List ℕ → ℕ → Negotiated
 negotiated zero d ring v = record { agreed = none; device = d }
 negotiated (suc n) d ring v =

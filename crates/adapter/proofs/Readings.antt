@@ -23,7 +23,8 @@ use Rattle.register.specs.Numbers.{numbers, registerOf}
 use Rattle.adapter.specs.declared.Device.{Device}
 use Rattle.adapter.specs.Device.{memoryOf, made}
 use Rattle.adapter.specs.Answers.{Outcome, Reading}
-use Rattle.adapter.specs.Registers.{writableValue, readOnlyValue, readBy, taken, refused, isId, idWritten, enableWritten, widthWritten, heightWritten, acceptedWritten, configDoneWritten, running, synced, cursorOnWritten, writableWritten, writtenBy, written}
+use Rattle.adapter.proofs.Kept.{written-made}
+use Rattle.adapter.specs.Registers.{writableValue, readOnlyValue, readBy, readOf, taken, refused, isId, idWritten, enableWritten, widthWritten, heightWritten, acceptedWritten, configDoneWritten, running, synced, cursorOnWritten, writableWritten, writtenBy, written}
 
 -- ---- the registers by their numbers
 
@@ -252,6 +253,24 @@ by-register P d ring v Absent p q = q 30
 pub by-written : (P : Outcome → Type 0) (d : Device) (ring : List ℕ) (i v : ℕ) → ((w : Writable) → P (writableWritten d ring v w)) → ((a : ℕ) → P (refused a d)) → P (written d ring i v)
 unfolding written
 by-written P d ring i v p q = by-cond P (made d) (λ t. by-register P d ring v (registerOf i) p q) (λ f. q 30)
+
+-- a write to a register that is none, or read-only, changes nothing
+unwritable : (d : Device) (ring : List ℕ) (i v : ℕ) (r : Register) → registerOf i ≡ r → ((w : Writable) → r ≡ Writes w → ⊥) → written d ring i v .device ≡ d
+unfolding written writtenBy
+unwritable d ring i v (Writes w) e n = absurd (n w refl)
+unwritable d ring i v (Reads r) e n = by-bool (made d) (λ m. rw (m, e)) (λ f. rw f)
+unwritable d ring i v Absent e n = by-bool (made d) (λ m. rw (m, e)) (λ f. rw f)
+
+-- a write to i leaves what j reads, unless i is a register that affects j
+pub reads-stay : (d : Device) (ring : List ℕ) (i v j : ℕ) → made d ≡ true → ((w : Writable) → registerOf i ≡ Writes w → affects w (registerOf j) ≡ false)
+    → readOf (written d ring i v .device) j ≡ readOf d j
+unfolding readOf
+reads-stay d ring i v j m apart = rw (written-made d ring i v m, m) (go (registerOf i) refl)
+  where
+    go : (r : Register) → registerOf i ≡ r → readBy (written d ring i v .device) (registerOf j) ≡ readBy d (registerOf j)
+    go (Writes w) e = write-leaves d ring i v j w e (apart w e) m
+    go (Reads r) e = ap (λ (x : Device). readBy x (registerOf j)) (unwritable d ring i v (Reads r) e (λ w c. let z : _≡_ {A = ℕ} 0 1 = cc in omega arith))
+    go Absent e = ap (λ (x : Device). readBy x (registerOf j)) (unwritable d ring i v Absent e (λ w c. let z : _≡_ {A = ℕ} 0 1 = cc in omega arith))
 
 -- a taken value is read back
 pub reads-back : (d : Device) (ring : List ℕ) (v : ℕ) (w : Writable) → writableWritten d ring v w .answer ≡ 0 → stored w v ≡ true → writableValue (writableWritten d ring v w .device .registers) w ≡ v

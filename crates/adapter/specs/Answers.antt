@@ -1,7 +1,10 @@
 -- The answer numbers: document 01, "Answer numbers". The code answers enums; here are their numbers and values.
 use Prim.Native.Nat.{ℕ}
+use mathlib.Core.Bool.{cond}
 use mathlib.Core.List.{List}
+use mathlib.Core.Option.{Option, none, some}
 use Rattle.adapter.specs.declared.Device.{Device}
+use Rattle.adapter.specs.Device.{sizesGood, fresh}
 use Rattle.adapter.specs.declared.Written.{Written}
 use Rattle.adapter.specs.declared.WriteAnswer.{WriteAnswer}
 use Rattle.adapter.specs.declared.WriteAnswer.the-variants.{Taken, WrongLength, NoRegister, NotWritable, BadValue, RingRefused}
@@ -12,10 +15,14 @@ use Rattle.adapter.specs.declared.PictureAnswer.the-variants.{Taken as S
 use Rattle.adapter.specs.declared.Making.{Making}
 use Rattle.adapter.specs.declared.Making.the-variants.{Made, Refused}
 
--- making: 0 taken, 34 M or P
-abbrev pub makingNumber : Making → ℕ
-makingNumber (Made d) = 0
-makingNumber Refused = 34
+-- making: 0 taken, and a device; 34 M or P, and none
+pub record Creation : Type 0 where
+  pub answer : ℕ
+  pub device : Option Device
+
+abbrev pub creation : Making → Creation
+creation (Made d) = record { answer = 0; device = some d }
+creation Refused = record { answer = 34; device = none }
 
 -- register write: 0 taken, 20 lent length, 30 no such register, 31 read-only, 32 bad value, 33 ring refused
 abbrev pub writeNumber : WriteAnswer → ℕ
@@ -56,3 +63,8 @@ pub record Pictured : Type 0 where
 
 abbrev pub pictured : PictureAnswer → List ℕ → Pictured
 pictured a output = record { answer = pictureNumber a; output = output }
+
+-- "otherwise answer 34", and then "making yields no device"
+unfoldable pub madeOf : ℕ → ℕ → Creation
+madeOf memory pixels =
+    cond (sizesGood memory pixels) (record { answer = 0; device = some (fresh memory pixels) }) (record { answer = 34; device = none })

@@ -5,15 +5,14 @@ use mathlib.Core.Bool.{Bool, true, false, cond, not, _&&_}
 use lib.Dec.{eqb, ltb, leb}
 use Rattle.ring.specs.declared.Ring.{Ring}
 use Rattle.cursor.specs.declared.Shape.{Shape}
+use Rattle.cursor.specs.Plane.{shapeGood}
 use Rattle.adapter.specs.declared.Registers.{Registers}
 use Rattle.adapter.specs.declared.Plane.{Plane}
-use Rattle.adapter.specs.declared.Defined.{Defined}
-use Rattle.adapter.specs.declared.Defined.the-variants.{Undefined, Cursor}
+use Rattle.cursor.specs.declared.Defined.{Defined}
+use Rattle.cursor.specs.declared.Defined.the-variants.{Undefined, Cursor}
 use Rattle.adapter.specs.declared.Condition.{Condition}
 use Rattle.adapter.specs.declared.Condition.the-variants.{Idle, Running, Faulted}
 use Rattle.adapter.specs.declared.Device.{Device}
-use Rattle.adapter.specs.declared.Making.{Making}
-use Rattle.adapter.specs.declared.Making.the-variants.{Made, Refused}
 
 -- ---- for other crates: what a device is made for, and its mode
 
@@ -62,10 +61,6 @@ fresh memory pixels = record {
   condition = Idle;
 }
 
--- "otherwise answer 34", and then "making yields no device"
-unfoldable pub madeOf : ℕ → ℕ → Making
-madeOf memory pixels = cond (sizesGood memory pixels) (Made (fresh memory pixels)) Refused
-
 -- ---- well-formed devices: a test that `make` meets and every call keeps
 
 -- "2 WIDTH (1 to 2,560), 3 HEIGHT (1 to 1,600)"
@@ -83,10 +78,7 @@ conditionGood memory config Idle = not config
 conditionGood memory config (Running g) = cond config (ringGood memory g) false
 conditionGood memory config (Faulted c) = true
 
--- "Cursor: w and h 1 to 64, hotx < w, hoty < h"
-unfoldable pub shapeGood : Shape → Bool
-shapeGood s = leb 1 (s .w) && (leb (s .w) 64 && (leb 1 (s .h) && (leb (s .h) 64 && (ltb (s .hotx) (s .w) && ltb (s .hoty) (s .h)))))
-
+-- The defined cursor is one that a command may define.
 unfoldable pub definedGood : Defined → Bool
 unfolding shapeGood
 definedGood Undefined = true

@@ -1,19 +1,16 @@
 -- The usable offscreen rectangle: document 01, "Registers".
-use Prim.Native.Nat.{ℕ, _+_, _-_, _*_, _/_}
+use Prim.Native.Nat.{ℕ, _+_, _-_, _/_}
 use mathlib.Core.Bool.{cond}
 use Rattle.adapter.specs.declared.Device.{Device}
 use Rattle.adapter.specs.declared.Edges.{Edges}
-use Rattle.adapter.specs.Device.{pixelsOf, widthOf, heightOf, made}
+use Rattle.register.specs.declared.ReadOnly.{ReadOnly}
+use Rattle.register.specs.declared.ReadOnly.the-variants.{Depth, BytesPerLine, FbSize, VramSize}
+use Rattle.adapter.specs.Device.{widthOf, heightOf, made}
+use Rattle.adapter.specs.Registers.{readOnlyValue}
 
--- "BYTES_PER_LINE 4·width", "FB_SIZE 4·width·height", "VRAM_SIZE 4·P", "DEPTH 24"
-abbrev pub bytesPerLine : Device → ℕ
-bytesPerLine d = 4 * widthOf d
-
-abbrev pub fbSize : Device → ℕ
-fbSize d = 4 * widthOf d * heightOf d
-
-abbrev pub vramSize : Device → ℕ
-vramSize d = 4 * pixelsOf d
+-- What a read-only register reads.
+abbrev pub reads : Device → ReadOnly → ℕ
+reads d r = readOnlyValue (d .sizes) (widthOf d) (heightOf d) (d .busy) r
 
 -- a / b, rounded up
 abbrev pub ceiling : ℕ → ℕ → ℕ
@@ -24,5 +21,10 @@ ceiling a b = (a + b - 1) / b
 unfoldable pub offscreenOf : Device → Edges
 offscreenOf d =
     cond (made d)
-    (record { left = 0; top = ceiling (fbSize d) (bytesPerLine d); right = bytesPerLine d / 24; bottom = vramSize d / bytesPerLine d })
+    (record {
+      left = 0;
+      top = ceiling (reads d FbSize) (reads d BytesPerLine);
+      right = reads d BytesPerLine / reads d Depth;
+      bottom = reads d VramSize / reads d BytesPerLine;
+    })
     (record { left = 0; top = 0; right = 0; bottom = 0 })

@@ -7,8 +7,8 @@ use lib.ListN.{length}
 use Rattle.picture.specs.declared.Over.{Over}
 use Rattle.picture.specs.declared.Over.the-variants.{Nothing, Cursor as Appears}
 use Rattle.picture.specs.Picture.{composed}
-use Rattle.adapter.specs.declared.Defined.{Defined}
-use Rattle.adapter.specs.declared.Defined.the-variants.{Undefined, Cursor}
+use Rattle.cursor.specs.declared.Defined.{Defined}
+use Rattle.cursor.specs.declared.Defined.the-variants.{Undefined, Cursor}
 use Rattle.adapter.specs.declared.Device.{Device}
 use Rattle.adapter.specs.Device.{pixelsOf, widthOf, heightOf, made}
 use Rattle.adapter.specs.Answers.{Pictured}

@@ -1,4 +1,5 @@
 // The device: making, registers, picture, offscreen rectangle, fences.
+use cursor::Defined;
 use cursor::Shape;
 use order::Cause;
 use picture::Over;
@@ -10,8 +11,8 @@ use ring::Acceptance;
 use ring::Ring;
 ghost use mathlib.Core.Path.{_≡_};
 ghost use mathlib.Core.Bool.{true};
-ghost use Rattle.adapter.specs.Device.{sizesGood, modeGood, ringGood, conditionGood, shapeGood, definedGood, made, madeOf, widthOf, heightOf, cursorDefined};
-ghost use Rattle.adapter.specs.Answers.{outcome, reading, pictured};
+ghost use Rattle.adapter.specs.Device.{sizesGood, modeGood, ringGood, conditionGood, definedGood, made, widthOf, heightOf, cursorDefined};
+ghost use Rattle.adapter.specs.Answers.{creation, madeOf, writeNumber, pictureNumber, outcome, reading, pictured};
 ghost use Rattle.adapter.specs.Registers.{bit, writableValue, readOnlyValue, readOf, registersWritten, planeWritten, idWritten, enableWritten, widthWritten, heightWritten, idled, unconfigured, acceptedWritten, configDoneWritten, running, synced, cursorOnWritten, writableWritten, written};
 ghost use Rattle.adapter.specs.Picture.{cursorOver, lengthsGood, pictureOf};
 ghost use Rattle.adapter.specs.Offscreen.{offscreenOf};
@@ -43,11 +44,6 @@ pub struct Plane {
     id: u32,
     x: u32,
     y: u32,
-}
-
-pub enum Defined {
-    Undefined,
-    Cursor(Shape),
 }
 
 pub enum Condition {
@@ -102,6 +98,33 @@ pub struct Edges {
     pub top: u32,
     pub right: u32,
     pub bottom: u32,
+}
+
+// ---- answer numbers
+
+// Rules out: 31 for a register that is absent; 33 for a lent length.
+pub fn write_number(answer: WriteAnswer) -> u32
+    ensures { λ r. ⌜ r ≡ writeNumber answer ⌝ }
+{
+    match answer {
+        WriteAnswer::Taken => 0,
+        WriteAnswer::WrongLength => 20,
+        WriteAnswer::NoRegister => 30,
+        WriteAnswer::NotWritable => 31,
+        WriteAnswer::BadValue => 32,
+        WriteAnswer::RingRefused => 33,
+    }
+}
+
+// Rules out: 20 and 24 exchanged; 1 for a picture that was taken.
+pub fn picture_number(answer: PictureAnswer) -> u32
+    ensures { λ r. ⌜ r ≡ pictureNumber answer ⌝ }
+{
+    match answer {
+        PictureAnswer::Taken => 0,
+        PictureAnswer::WrongLength => 20,
+        PictureAnswer::TooLarge => 24,
+    }
 }
 
 // ---- well-formed devices
@@ -176,27 +199,6 @@ fn condition_good(memory: u32, config: bool, condition: Condition) -> bool
     }
 }
 
-fn shape_good(shape: Shape) -> bool
-    ensures { λ r. ⌜ r ≡ shapeGood shape ⌝ }
-{
-    if shape.w < 1 {
-        return false;
-    }
-    if 64 < shape.w {
-        return false;
-    }
-    if shape.h < 1 {
-        return false;
-    }
-    if 64 < shape.h {
-        return false;
-    }
-    if shape.w <= shape.hotx {
-        return false;
-    }
-    shape.hoty < shape.h
-}
-
 fn defined_good(defined: Defined) -> bool
     ensures { λ r. ⌜ r ≡ definedGood defined ⌝ }
 {
@@ -205,12 +207,12 @@ fn defined_good(defined: Defined) -> bool
             return true;
         }
         Defined::Cursor(shape) => {
-            return shape_good(shape);
+            return cursor::shape_good(shape);
         }
     }
 }
 
-// Whether a device is one that calls can have made.
+// Whether a device has what every call keeps: sizes, mode, ring, condition and cursor in their ranges and agreeing.
 fn is_made(d: Device) -> bool
     ensures { λ r. ⌜ r ≡ made d ⌝ }
 {
@@ -236,7 +238,7 @@ fn is_made(d: Device) -> bool
 // A fresh device for a ring memory of memory bytes and pixels pixels.
 // Rules out: a device for a memory of 10,252 bytes; a fresh device that is enabled.
 pub fn make(memory: u32, pixels: u32) -> Making
-    ensures { λ r. ⌜ r ≡ madeOf memory pixels ⌝ }
+    ensures { λ r. ⌜ creation r ≡ madeOf memory pixels ⌝ }
 {
     let good = sizes_good(memory, pixels);
     if !good {
@@ -272,11 +274,12 @@ pub fn make(memory: u32, pixels: u32) -> Making
 }
 
 // The device with a cursor defined: its id, hotspot and size. The cursor's pixels are in the cursor image that calls lend.
-// Rules out: a cursor of 65 by 1 defined; a defined cursor that is shown at once.
+// For the run, which calls it after its own check, and for tests; no call of document 01.
+// Rules out: a cursor of 65 by 1 defined; a definition that shows a hidden cursor, or moves one.
 pub fn define_cursor(d: Device, shape: Shape) -> Device
     ensures { λ r. ⌜ r ≡ cursorDefined d shape ⌝ }
 {
-    let good = shape_good(shape);
+    let good = cursor::shape_good(shape);
     if !good {
         return d;
     }
@@ -771,7 +774,7 @@ pub fn picture(d: Device, screen: &[u32], image: &[u32], output: &mut [u32]) -> 
 // ---- offscreen rectangle
 
 // The usable offscreen rectangle. It may be empty.
-// Rules out: a top edge rounded down; a right edge of width pixels (document 01 divides bytes by the depth).
+// Rules out: a bottom edge rounded up; four zeros for an empty rectangle.
 pub fn offscreen(d: Device) -> Edges
     ensures { λ r. ⌜ r ≡ offscreenOf d ⌝ }
 {
@@ -800,7 +803,7 @@ pub fn offscreen(d: Device) -> Edges
 // ---- fences
 
 // The last fence number executed; 0 at first.
-// Rules out: the number of fences executed; the largest of them.
+// Rules out: 0 always; the fence that was asked about last.
 pub fn fence(d: Device) -> u32
     ensures { λ r. ⌜ r ≡ fenceOf d ⌝ }
 {

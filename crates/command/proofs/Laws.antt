@@ -2,17 +2,19 @@
 -- keeps what the theorem of `order` asks.
 -- Assumes nothing.
 use mathlib.Core.Path.{_≡_, refl, _∙_}
-use mathlib.Core.Bool.{true}
-use mathlib.Core.List.{List}
+use mathlib.Core.Bool.{true, false, cond}
+use mathlib.Core.List.{List, [], _∷_}
 use Prim.Native.Nat.{ℕ, _≤_, _<_}
 use native.Mathlib.Omega.{arith}
 use lib.ListN.{length, take, getD}
 use lib.Seq.{getD-take}
 use lib.Dec.{leb}
-use borrow.Author.Tests.{le-leb}
+use borrow.Author.Tests.{le-leb, leb-true}
 use Rattle.geometry.proofs.Tests.{by-bool}
 use Rattle.order.specs.Straight.{ends, exec}
 use Rattle.order.specs.Straight as O
+use Rattle.order.specs.declared.End.the-variants.{Drained, Waiting, Fault}
+use Rattle.order.specs.declared.Cause.the-variants.{NotOffered}
 use Rattle.order.specs.Table.{unless, turnAt, turnOf}
 use Rattle.order.proofs.Laws.{Laws}
 use Rattle.order.proofs.Tables.{laws-of}
@@ -24,7 +26,7 @@ use Rattle.command.specs.declared.Kind.the-variants.{Update, RectFill, R
 use Rattle.command.specs.declared.Command.{Command}
 use Rattle.command.specs.declared.Command.the-variants as C
 use Rattle.command.specs.Commands.{kindOf, offered, headWords, sizeOf, headGood, operandsGood, turnOn}
-use Rattle.command.specs.Words.{headOf, encode, decoded, kindFor}
+use Rattle.command.specs.Words.{headOf, encode, decoded, kindFor, turnWords}
 use Rattle.command.specs.Offered.{commandIn, commands}
 
 -- ---- words and commands
@@ -152,3 +154,38 @@ turn-is does cap s x w e on fits =
     (λ missing. rw (good, carried, missing)))
     (λ long. rw (good, long)))
     (λ bad. rw bad))
+
+-- a turn on all the words that wait
+module _ {S : Type 0} (does : Action → List ℕ → S → S) (cap : ℕ) (s : S) where
+  turn-short : (x : ℕ) (w : List ℕ) → offered (kindOf x) ≡ true → leb (headWords (kindOf x)) (length w) ≡ false → turnAt cap (commands does) s x w ≡ ends Waiting
+  unfolding commands unless
+  turn-short x w on short = rw (on, short)
+
+  turn-foreign : (x : ℕ) (w : List ℕ) → offered (kindOf x) ≡ false → turnAt cap (commands does) s x w ≡ ends (Fault NotOffered)
+  unfolding commands unless
+  turn-foreign x w off = rw off
+
+  pub turn-words : (w : List ℕ) → turnOf cap (commands does) s w ≡ asTurn does s w (turnWords cap w)
+  unfolding turnOf turnWords
+  turn-words [] = refl
+  turn-words (x ∷ w) =
+      by-bool (offered (kindOf x))
+      (λ on. by-bool (leb (headWords (kindOf x)) (length (x ∷ w)))
+      (λ fits. turn-is does cap s x (x ∷ w) refl on (leb-true _ _ fits) ∙ rw (on, fits))
+      (λ short. turn-short x (x ∷ w) on short ∙ rw (on, short)))
+      (λ off. turn-foreign x (x ∷ w) off ∙ rw off)
+
+-- a turn on words of which there are some, by the first of them
+pub turn-first : (cap : ℕ) (w : List ℕ) → (length w ≡ 0 → ⊥)
+    → turnWords cap w
+    ≡ cond (offered (kindOf (getD w 0 0)))
+    (cond (leb (headWords (kindOf (getD w 0 0))) (length w)) (turnOn (decoded (kindOf (getD w 0 0)) w) (length w) cap) (Ends Waiting))
+    (Ends (Fault NotOffered))
+unfolding turnWords
+turn-first cap [] some = absurd (some refl)
+turn-first cap (x ∷ w) some = refl
+
+pub turn-none : (cap : ℕ) (w : List ℕ) → length w ≡ 0 → turnWords cap w ≡ Ends Drained
+unfolding turnWords
+turn-none cap [] none = refl
+turn-none cap (x ∷ w) none = let z : _≡_ {A = ℕ} 0 1 = cc in absurd (omega arith)

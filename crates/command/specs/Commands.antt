@@ -2,7 +2,7 @@
 use Prim.Native.Nat.{ℕ, _+_, _*_, _/_}
 use mathlib.Core.Bool.{Bool, true, false, cond, _&&_}
 use lib.Dec.{eqb, ltb, leb}
-use Rattle.cursor.specs.declared.Shape.{Shape}
+use Rattle.cursor.specs.Plane.{shapeGood}
 use Rattle.order.specs.declared.Cause.the-variants.{BadOperand, TooLong}
 use Rattle.order.specs.declared.End.the-variants.{Waiting, Fault}
 use Rattle.command.specs.declared.Kind.{Kind}
@@ -14,8 +14,8 @@ use Rattle.command.specs.declared.Action.the-variants as A
 use Rattle.command.specs.declared.Turn.{Turn}
 use Rattle.command.specs.declared.Turn.the-variants.{Ends, Executes}
 
--- "1 UPDATE, 2 RECT_FILL, 3 RECT_COPY, 13 RECT_ROP_FILL, 14 RECT_ROP_COPY, 22 DEFINE_ALPHA_CURSOR, 25 UPDATE_VERBOSE, 30 FENCE, 33 ESCAPE";
--- any other number is not offered.
+-- The column "Command": 1 UPDATE, 2 RECT_FILL, 3 RECT_COPY, 13 RECT_ROP_FILL, 14 RECT_ROP_COPY, 22 DEFINE_ALPHA_CURSOR, 25 UPDATE_VERBOSE, 30 FENCE,
+-- 33 ESCAPE; any other number is not offered.
 unfoldable pub kindOf : ℕ → Kind
 kindOf number =
     cond (eqb number 1) Update
@@ -65,17 +65,14 @@ sizeOf (C.UpdateVerbose r reason) = 6
 sizeOf (C.Fence number) = 2
 sizeOf (C.Escape namespace bytes) = 3 + (bytes + 3) / 4
 
--- "Cursor: w and h 1 to 64, hotx < w, hoty < h, else 11."
-unfoldable pub cursorGood : Shape → Bool
-cursorGood s = leb 1 (s .w) && (leb (s .w) 64 && (leb 1 (s .h) && (leb (s .h) 64 && (ltb (s .hotx) (s .w) && ltb (s .hoty) (s .h)))))
-
+-- "Cursor head bad: 11."
 unfoldable pub headGood : Command → Bool
 headGood (C.Update r) = true
 headGood (C.RectFill colour r) = true
 headGood (C.RectCopy from r) = true
 headGood (C.RectRopFill colour r rop) = true
 headGood (C.RectRopCopy from r rop) = true
-headGood (C.DefineAlphaCursor s) = cursorGood s
+headGood (C.DefineAlphaCursor s) = shapeGood s
 headGood (C.UpdateVerbose r reason) = true
 headGood (C.Fence number) = true
 headGood (C.Escape namespace bytes) = true
@@ -92,7 +89,7 @@ operandsGood (C.UpdateVerbose r reason) = true
 operandsGood (C.Fence number) = true
 operandsGood (C.Escape namespace bytes) = true
 
--- What is executed: a plain fill or copy is operation 3; "25 UPDATE_VERBOSE as 1, reason (no effect)"; "33 ESCAPE .. data (no effect)".
+-- What is executed: a plain fill or copy is operation 3; UPDATE_VERBOSE "as 1, reason (no effect)"; ESCAPE's "data (no effect)".
 unfoldable pub actionOf : Command → Action
 actionOf (C.Update r) = A.Update r
 actionOf (C.RectFill colour r) = A.Fill r colour 3

@@ -1,11 +1,18 @@
 -- A command's words: document 01, "One command out of the ring", the column "Arguments".
 use Prim.Native.Nat.{ℕ, _+_}
 use mathlib.Core.List.{List, [], _∷_, _++_}
-use lib.ListN.{getD}
+use mathlib.Core.Bool.{cond}
+use lib.Dec.{leb}
+use lib.ListN.{length, getD}
+use Rattle.order.specs.declared.End.the-variants.{Drained, Waiting, Fault}
+use Rattle.order.specs.declared.Cause.the-variants.{NotOffered}
 use Rattle.geometry.specs.declared.Rect.{Rect}
 use Rattle.command.specs.declared.Source.{Source}
 use Rattle.command.specs.declared.Kind.{Kind}
 use Rattle.command.specs.declared.Kind.the-variants.{Update, RectFill, RectCopy, RectRopFill, RectRopCopy, DefineAlphaCursor, UpdateVerbose, Fence, Escape, Foreign}
+use Rattle.command.specs.declared.Turn.{Turn}
+use Rattle.command.specs.declared.Turn.the-variants.{Ends}
+use Rattle.command.specs.Commands.{kindOf, offered, headWords, turnOn}
 use Rattle.command.specs.declared.Command.{Command}
 use Rattle.command.specs.declared.Command.the-variants as C
 
@@ -59,3 +66,11 @@ kindFor (C.DefineAlphaCursor s) = DefineAlphaCursor
 kindFor (C.UpdateVerbose r reason) = UpdateVerbose
 kindFor (C.Fence number) = Fence
 kindFor (C.Escape namespace bytes) = Escape
+
+-- A turn on the words that wait, of which a ring carries so many: "NEXT_CMD = STOP: 0. Number not offered: 10. Head incomplete: 1." and then `turnOn`.
+unfoldable pub turnWords : ℕ → List ℕ → Turn
+turnWords carried [] = Ends Drained
+turnWords carried (x ∷ w) =
+    cond (offered (kindOf x))
+    (cond (leb (headWords (kindOf x)) (length (x ∷ w))) (turnOn (decoded (kindOf x) (x ∷ w)) (length (x ∷ w)) carried) (Ends Waiting))
+    (Ends (Fault NotOffered))

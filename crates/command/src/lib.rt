@@ -4,7 +4,7 @@ use geometry::Rect;
 use order::Cause;
 use order::End;
 ghost use mathlib.Core.Path.{_≡_};
-ghost use Rattle.command.specs.Commands.{kindOf, headWords, sizeOf, cursorGood, headGood, operandsGood, actionOf, turnOn};
+ghost use Rattle.command.specs.Commands.{kindOf, offered, headWords, sizeOf, headGood, operandsGood, actionOf, turnOn};
 
 // The commands that are offered, and every other number.
 pub enum Kind {
@@ -55,6 +55,7 @@ pub enum Turn {
     Executes(Action, u64),
 }
 
+// The kind of command that a number names.
 // Rules out: command 20 or 21 offered; 4294967295 taken for one that is offered.
 pub fn kind_of(number: u32) -> Kind
     ensures { λ r. ⌜ r ≡ kindOf number ⌝ }
@@ -70,6 +71,25 @@ pub fn kind_of(number: u32) -> Kind
         30 => Kind::Fence,
         33 => Kind::Escape,
         0 | 4..=12 | 15..=21 | 23..=24 | 26..=29 | 31..=32 | 34..=4294967295 => Kind::Foreign,
+    }
+}
+
+// Whether a kind is one of the nine.
+// Rules out: a foreign number offered; an escape left out.
+pub fn is_offered(kind: Kind) -> bool
+    ensures { λ r. ⌜ r ≡ offered kind ⌝ }
+{
+    match kind {
+        Kind::Update => true,
+        Kind::RectFill => true,
+        Kind::RectCopy => true,
+        Kind::RectRopFill => true,
+        Kind::RectRopCopy => true,
+        Kind::DefineAlphaCursor => true,
+        Kind::UpdateVerbose => true,
+        Kind::Fence => true,
+        Kind::Escape => true,
+        Kind::Foreign => false,
     }
 }
 
@@ -92,27 +112,6 @@ pub fn head_words(kind: Kind) -> u32
     }
 }
 
-fn cursor_good(shape: Shape) -> bool
-    ensures { λ r. ⌜ r ≡ cursorGood shape ⌝ }
-{
-    if shape.w < 1 {
-        return false;
-    }
-    if 64 < shape.w {
-        return false;
-    }
-    if shape.h < 1 {
-        return false;
-    }
-    if 64 < shape.h {
-        return false;
-    }
-    if shape.w <= shape.hotx {
-        return false;
-    }
-    shape.hoty < shape.h
-}
-
 fn head_good(command: Command) -> bool
     ensures { λ r. ⌜ r ≡ headGood command ⌝ }
 {
@@ -122,7 +121,7 @@ fn head_good(command: Command) -> bool
         Command::RectCopy(_, _) => true,
         Command::RectRopFill(_, _, _) => true,
         Command::RectRopCopy(_, _, _) => true,
-        Command::DefineAlphaCursor(shape) => cursor_good(shape),
+        Command::DefineAlphaCursor(shape) => cursor::shape_good(shape),
         Command::UpdateVerbose(_, _) => true,
         Command::Fence(_) => true,
         Command::Escape(_, _) => true,
@@ -179,7 +178,7 @@ fn action_of(command: Command) -> Action
     }
 }
 
-// A turn on a command whose head is complete: waiting words wait, its own included, and the ring carries carried words.
+// A turn on a command whose head is complete. So many words wait, its own included, and so many the ring carries.
 // Rules out: waiting for ever on a command longer than the ring; a raster operation judged before all words are there.
 pub fn turn_on(command: Command, waiting: u64, carried: u64) -> Turn
     ensures { λ r. ⌜ r ≡ turnOn command waiting carried ⌝ }

@@ -5,7 +5,7 @@ ghost use lib.ListN.{length, getD};
 ghost use Rattle.geometry.specs.Pixels.{tabulate};
 ghost use Rattle.geometry.specs.Parts.{Inside};
 ghost use Rattle.pixel.specs.Blend.{blendPixel};
-ghost use Rattle.cursor.specs.Plane.{signed, cornerOf, overlayFits, overlaid};
+ghost use Rattle.cursor.specs.Plane.{shapeGood, signed, cornerOf, overlayFits, overlaid};
 ghost use Rattle.cursor.specs.Spans.{spanAt, spanFrom, overlaidSeen};
 
 // A defined cursor: its id, hotspot and size.
@@ -17,11 +17,40 @@ pub struct Shape {
     pub h: u32,
 }
 
+// The cursor that is defined, if one is.
+pub enum Defined {
+    Undefined,
+    Cursor(Shape),
+}
+
 // The part of a cursor's columns or rows that lies in the picture: n of them, from column at of the picture and column skip of the cursor on.
 struct Span {
     at: u32,
     skip: u32,
     n: u32,
+}
+
+// Whether a command may define such a cursor.
+// Rules out: a cursor of 65 by 1 or of 0 by 1; a hotspot on the edge behind the last column.
+pub fn shape_good(shape: Shape) -> bool
+    ensures { λ r. ⌜ r ≡ shapeGood shape ⌝ }
+{
+    if shape.w < 1 {
+        return false;
+    }
+    if 64 < shape.w {
+        return false;
+    }
+    if shape.h < 1 {
+        return false;
+    }
+    if 64 < shape.h {
+        return false;
+    }
+    if shape.w <= shape.hotx {
+        return false;
+    }
+    shape.hoty < shape.h
 }
 
 // ---- where the cursor stands

@@ -5,7 +5,6 @@ use crate::draw::next;
 use crate::draw::prepare;
 use crate::draw::prepare_image;
 use crate::print::field;
-use crate::print::picture_number;
 use crate::print::show_shape;
 use crate::print::show_words;
 use crate::print::text;
@@ -25,7 +24,7 @@ const MOST: u32 = 4294967295;
 fn look(d: Device, screen: &[u32], image: &[u32], output: &mut [u32]) {
     prepare(output, 3);
     let answer = adapter::picture(d, screen, image, output);
-    field(b" picture ", picture_number(answer));
+    field(b" picture ", adapter::picture_number(answer));
     show_words(output);
 }
 
@@ -430,7 +429,7 @@ fn try_large(d: Device, screen: &[u32], image: &[u32], output: &mut [u32], case:
     let after = case_device(d, case);
     prepare(output, 3);
     let answer = adapter::picture(after, screen, image, output);
-    field(b" picture ", picture_number(answer));
+    field(b" picture ", adapter::picture_number(answer));
     field(b" checksum ", checksum(output));
     text(b"\n");
 }

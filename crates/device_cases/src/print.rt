@@ -1,8 +1,6 @@
 // What is printed: numbers, registers, words and answers.
 use adapter::Device;
-use adapter::PictureAnswer;
 use adapter::Value;
-use adapter::WriteAnswer;
 use cursor::Shape;
 use libc::STDOUT_FILENO;
 
@@ -59,43 +57,6 @@ pub fn show_state(d: Device) {
     show_register(d, 20);
     show_register(d, 22);
     text(b"\n");
-}
-
-pub fn answer_number(answer: WriteAnswer) -> u32 {
-    match answer {
-        WriteAnswer::Taken => {
-            return 0;
-        }
-        WriteAnswer::WrongLength => {
-            return 20;
-        }
-        WriteAnswer::NoRegister => {
-            return 30;
-        }
-        WriteAnswer::NotWritable => {
-            return 31;
-        }
-        WriteAnswer::BadValue => {
-            return 32;
-        }
-        WriteAnswer::RingRefused => {
-            return 33;
-        }
-    }
-}
-
-pub fn picture_number(answer: PictureAnswer) -> u32 {
-    match answer {
-        PictureAnswer::Taken => {
-            return 0;
-        }
-        PictureAnswer::WrongLength => {
-            return 20;
-        }
-        PictureAnswer::TooLarge => {
-            return 24;
-        }
-    }
 }
 
 pub fn show_words(words: &[u32]) {

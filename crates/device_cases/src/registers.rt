@@ -1,5 +1,4 @@
 // Making a device, register writes, the id, BUSY, the offscreen rectangle and fences.
-use crate::print::answer_number;
 use crate::print::field;
 use crate::print::show_absent;
 use crate::print::show_registers;
@@ -105,7 +104,7 @@ pub fn put(d: Device, ring: &[u32], index: u32, value: u32) -> Device {
     let after = written.device;
     field(b"w ", index);
     field(b" ", value);
-    field(b": ", answer_number(answer));
+    field(b": ", adapter::write_number(answer));
     after
 }
 

@@ -3,7 +3,7 @@
 use borrow.Author.Needs.{needs}
 use mathlib.Core.Path.{sym, _∙_}
 use borrow.Author.Tests.{not-true, not-false}
-use Rattle.adapter.specs.Device.{madeOf}
+use Rattle.adapter.specs.Answers.{madeOf}
 use Rattle.adapter.proofs.make.Statement.{statement}
 use Rattle.adapter.proofs.make.Tie as tie
 

@@ -4,13 +4,14 @@ use borrow.Author.Needs.{needs}
 use native.Mathlib.Omega.{arith}
 use mathlib.Core.Path.{sym, _∙_}
 use borrow.Author.Tests.{not-true, not-false}
+use Rattle.adapter.specs.Registers.{readOnlyValue}
 use Rattle.adapter.specs.Offscreen.{offscreenOf}
 use Rattle.adapter.proofs.Laws.{well-formed, fb-size-fits}
 use Rattle.adapter.proofs.offscreen.Statement.{statement}
 use Rattle.adapter.proofs.offscreen.Tie as tie
 
 pub offscreen-spec : {M : Type 1} → statement M
-unfolding offscreenOf
+unfolding offscreenOf readOnlyValue
 offscreen-spec =
     tie.close
     (tie.spec

@@ -25,7 +25,7 @@ head-good-spec =
     (λ c. rw (c .enum-told3 .given .1))
     (λ c. rw (c .enum-told4 .given .1))
     (λ c. rw (c .enum-told5 .given .1))
-    (λ c. rw (c .before .before .command .given .1) (c .cursor-good .ensures))
+    (λ c. rw (c .before .before .command .given .1) (c .shape-good .ensures))
     (λ c. rw (c .enum-told6 .given .1))
     (λ c. rw (c .enum-told7 .given .1))
     (λ c. rw (c .enum-told8 .given .1)))

@@ -1,13 +1,13 @@
--- `command::cursor_good` meets its contract.
+-- `cursor::shape_good` meets its contract.
 -- Assumes nothing.
 use borrow.Author.Tests.{le-leb, le-ltb, lt-leb, lt-ltb}
-use Rattle.command.specs.Commands.{cursorGood}
-use Rattle.command.proofs.cursor_good.Statement.{statement}
-use Rattle.command.proofs.cursor_good.Tie as tie
+use Rattle.cursor.specs.Plane.{shapeGood}
+use Rattle.cursor.proofs.shape_good.Statement.{statement}
+use Rattle.cursor.proofs.shape_good.Tie as tie
 
-pub cursor-good-spec : {M : Type 1} → statement M
-unfolding cursorGood
-cursor-good-spec =
+pub shape-good-spec : {M : Type 1} → statement M
+unfolding shapeGood
+shape-good-spec =
     tie.close
     (tie.spec
     (λ c. rw (lt-leb 1 _ (c .if1 .taken)))
