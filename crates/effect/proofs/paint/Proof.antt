@@ -1,0 +1,30 @@
+-- `effect::paint` meets its contract.
+-- Assumes nothing.
+use borrow.Author.Needs.{needs}
+use Rattle.effect.specs.Effects.{screenAfter}
+use Rattle.effect.proofs.paint.Statement.{statement}
+use Rattle.effect.proofs.paint.Tie as tie
+
+pub paint-spec : {M : Type 1} → statement M
+unfolding screenAfter
+paint-spec =
+    tie.close
+    (tie.spec
+    (λ c. search needs)
+    (λ c κs. search needs)
+    (λ c. search needs)
+    (λ c κs. search needs)
+    (λ c. search needs)
+    (λ c κs. search needs)
+    (λ c. search needs)
+    (λ c. search needs)
+    (λ c. search needs)
+    (λ c. search needs)
+    (λ c. rw (c .before .before .before .before .before .action .given .1) (c .before .before .update .ensures))
+    (λ c. search needs)
+    (λ c. rw (c .before .before .before .before .before .action2 .given .1) (c .before .before .fill .ensures))
+    (λ c. search needs)
+    (λ c. rw (c .before .before .before .before .before .action3 .given .1) (c .before .before .copy .ensures))
+    (λ c. rw (c .enum-told .given .1))
+    (λ c. rw (c .enum-told2 .given .1))
+    (λ c. rw (c .enum-told3 .given .1)))
