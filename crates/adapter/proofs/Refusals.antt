@@ -58,8 +58,8 @@ refused-picture d screen image output =
     by-bool (made d)
     (λ m.
     by-bool (lent d screen image output)
-    (λ l. by-bool (fits d) (λ t. rw (m, l, t) (λ n. absurd (n refl))) (λ f. rw (m, l, f) (λ n. refl)))
-    (λ f. rw (m, f) (λ n. refl)))
+    (λ l. by-bool (fits d) (λ t. simp (m, l, t) (λ n. absurd (n refl))) (λ f. simp (m, l, f) (λ n. refl)))
+    (λ u. by-bool (fits d) (λ t. simp (m, u, t) (λ n. refl)) (λ f. simp (m, u, f) (λ n. refl))))
     (λ f. rw f (λ n. refl))
 
 -- ---- the answers of a write
