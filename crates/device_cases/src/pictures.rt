@@ -49,8 +49,12 @@ enum Act {
     Define(Shape),
 }
 
-// A device for 24 pixels: its mode, and a cursor that is shown, hidden, moved and defined anew.
+// A device for 24 pixels: first a cursor that is shown, hidden, moved and defined anew, then its mode under a cursor that stays.
 fn plane_act(n: u32) -> Act {
+    if n < 34 { cursor_act(n) } else { mode_act(n) }
+}
+
+fn cursor_act(n: u32) -> Act {
     match n {
         0 => Act::Write(2, 5),
         1 => Act::Write(3, 4),
@@ -85,7 +89,12 @@ fn plane_act(n: u32) -> Act {
         30 => Act::Define(shape_of(9, 3, 3, 1, 2)),
         31 => Act::Write(27, 1),
         32 => Act::Write(24, 9),
-        33 => Act::Write(27, 1),
+        _ => Act::Write(27, 1),
+    }
+}
+
+fn mode_act(n: u32) -> Act {
+    match n {
         34 => Act::Write(1, 1),
         35 => Act::Write(1, 0),
         36 => Act::Write(20, 0),
