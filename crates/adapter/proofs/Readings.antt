@@ -9,7 +9,7 @@ use lib.Dec.{eqb, leb}
 use lib.ListN.{length, getD, set, List·getD-map}
 use lib.Seq.{getD-set-other, set-getD}
 use borrow.Author.Tests.{eqb-true, eqb-false, leb-false}
-use Rattle.geometry.proofs.Tests.{by-bool, both}
+use Rattle.geometry.proofs.Tests.{by-bool, both, neither}
 use Rattle.ring.specs.declared.Ring.{Ring}
 use Rattle.ring.specs.declared.Acceptance.{Acceptance}
 use Rattle.ring.specs.declared.Acceptance.the-variants.{Accepted, Refused}
@@ -139,10 +139,6 @@ affects w r = has (numberOf r) (affected w)
 abbrev stores : List ℕ → List Reading → List Reading → List Reading
 stores [] l m = l
 stores (n ∷ ns) l m = set (stores ns l m) n (getD m n none)
-
-neither : (a b : Bool) → a || b ≡ false → (a ≡ false) × (b ≡ false)
-neither false b e = (refl, e)
-neither true b e = let z : _≡_ {A = ℕ} 0 1 = cc in absurd (omega arith)
 
 stores-other : (ns : List ℕ) (l m : List Reading) (j : ℕ) → has j ns ≡ false → getD (stores ns l m) j none ≡ getD l j none
 stores-other [] l m j e = refl

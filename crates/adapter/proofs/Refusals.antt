@@ -9,7 +9,7 @@ use native.Mathlib.Omega.{arith}
 use lib.Dec.{eqb, leb}
 use lib.ListN.{length}
 use borrow.Author.Tests.{eqb-true, eqb-false, eq-eqb, ne-eqb, leb-false, lt-leb}
-use Rattle.geometry.proofs.Tests.{by-bool}
+use Rattle.geometry.proofs.Tests.{by-bool, neither}
 use Rattle.ring.specs.Acceptance.{usable}
 use Rattle.ring.proofs.Laws.{accepted-when, refused-when}
 use Rattle.register.specs.declared.Register.{Register}
@@ -91,10 +91,6 @@ pub data Why (d : Device) (ring : List ℕ) (index v : ℕ) : ℕ → Type 0 whe
 
 clash : _≡_ {A = ℕ} 0 1 → ⊥
 clash z = omega arith
-
-neither : (a b : Bool) → a || b ≡ false → (a ≡ false) × (b ≡ false)
-neither true b e = absurd (clash cc)
-neither false b e = (refl, e)
 
 module _ (d : Device) (ring : List ℕ) (v : ℕ) where
   -- the registers other than CONFIG_DONE look at the value only

@@ -16,7 +16,6 @@ use Rattle.register.specs.declared.ReadOnly.the-variants.{MaxWidth, MaxHeight, 
 use Rattle.register.specs.Numbers.{registerOf}
 use Rattle.adapter.specs.declared.Sizes.{Sizes}
 use Rattle.adapter.specs.declared.Registers.{Registers}
-use Rattle.adapter.specs.declared.Plane.{Plane}
 use Rattle.adapter.specs.declared.Condition.{Condition}
 use Rattle.adapter.specs.declared.Condition.the-variants.{Idle, Running, Faulted}
 use Rattle.adapter.specs.declared.Device.{Device}
@@ -83,7 +82,7 @@ taken d = record { answer = 0; device = d }
 abbrev pub refused : ℕ → Device → Outcome
 refused answer d = record { answer = answer; device = d }
 
--- The registers with one value changed.
+-- The registers with the mode, with id, ENABLE and CONFIG_DONE, or with the others changed.
 abbrev pub setMode : Registers → ℕ → ℕ → Registers
 setMode g width height = record {
   id = g .id;
@@ -125,12 +124,6 @@ setOthers g guest cursorid cursorx cursory cursoron = record {
   cursory = cursory;
   cursoron = cursoron;
 }
-
-abbrev pub registersWritten : Device → Registers → Outcome
-registersWritten d g = taken (withRegisters d g)
-
-abbrev pub planeWritten : Device → Plane → Outcome
-planeWritten d p = taken (withPlane d p)
 
 -- "0 ID (0x90000000, ..01, ..02 are stored; any other value is taken and changes nothing, so negotiation works"
 abbrev pub isId : ℕ → Bool

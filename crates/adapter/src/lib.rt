@@ -11,9 +11,9 @@ use ring::Acceptance;
 use ring::Ring;
 ghost use mathlib.Core.Path.{_≡_};
 ghost use mathlib.Core.Bool.{true};
-ghost use Rattle.adapter.specs.Device.{sizesGood, modeGood, ringGood, conditionGood, definedGood, made, widthOf, heightOf, cursorDefined};
+ghost use Rattle.adapter.specs.Device.{sizesGood, modeGood, ringGood, conditionGood, definedGood, made, widthOf, heightOf, withRegisters, withPlane, cursorDefined};
 ghost use Rattle.adapter.specs.Answers.{creation, madeOf, writeNumber, pictureNumber, outcome, reading, pictured};
-ghost use Rattle.adapter.specs.Registers.{bit, writableValue, readOnlyValue, readOf, registersWritten, planeWritten, idWritten, enableWritten, widthWritten, heightWritten, idled, unconfigured, acceptedWritten, configDoneWritten, running, synced, cursorOnWritten, writableWritten, written};
+ghost use Rattle.adapter.specs.Registers.{bit, writableValue, readOnlyValue, readOf, taken, idWritten, enableWritten, widthWritten, heightWritten, idled, unconfigured, acceptedWritten, configDoneWritten, running, synced, cursorOnWritten, writableWritten, written};
 ghost use Rattle.adapter.specs.Picture.{cursorOver, lengthsGood, pictureOf};
 ghost use Rattle.adapter.specs.Offscreen.{offscreenOf};
 ghost use Rattle.adapter.specs.Fence.{fenceOf, fencePassed};
@@ -374,7 +374,7 @@ pub fn read(d: Device, index: u32) -> Value
 
 // Taken, with these registers.
 fn taken(d: Device, registers: Registers) -> Written
-    ensures { λ r. ⌜ outcome r ≡ registersWritten d registers ⌝ }
+    ensures { λ r. ⌜ outcome r ≡ taken (withRegisters d registers) ⌝ }
 {
     Written {
         answer: WriteAnswer::Taken,
@@ -586,7 +586,7 @@ fn sync(d: Device) -> Device
 
 // Taken, with this plane.
 fn planed(d: Device, plane: Plane) -> Written
-    ensures { λ r. ⌜ outcome r ≡ planeWritten d plane ⌝ }
+    ensures { λ r. ⌜ outcome r ≡ taken (withPlane d plane) ⌝ }
 {
     Written {
         answer: WriteAnswer::Taken,

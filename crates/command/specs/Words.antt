@@ -7,6 +7,7 @@ use lib.ListN.{length, getD}
 use Rattle.order.specs.declared.End.the-variants.{Drained, Waiting, Fault}
 use Rattle.order.specs.declared.Cause.the-variants.{NotOffered}
 use Rattle.geometry.specs.declared.Rect.{Rect}
+use Rattle.cursor.specs.declared.Shape.{Shape}
 use Rattle.command.specs.declared.Source.{Source}
 use Rattle.command.specs.declared.Kind.{Kind}
 use Rattle.command.specs.declared.Kind.the-variants.{Update, RectFill, RectCopy, RectRopFill, RectRopCopy, DefineAlphaCursor, UpdateVerbose, Fence, Escape, Foreign}
@@ -42,6 +43,9 @@ rectAt w i = record { x = getD w i 0; y = getD w (i + 1) 0; w = getD w (i + 2) 0
 abbrev pub sourceAt : List ℕ → ℕ → Source
 sourceAt w i = record { x = getD w i 0; y = getD w (i + 1) 0 }
 
+abbrev pub shapeAt : List ℕ → ℕ → Shape
+shapeAt w i = record { id = getD w i 0; hotx = getD w (i + 1) 0; hoty = getD w (i + 2) 0; w = getD w (i + 3) 0; h = getD w (i + 4) 0 }
+
 -- The command that words of a kind give. A foreign number gives none; it never gets so far, and an escape stands in for it.
 unfoldable pub decoded : Kind → List ℕ → Command
 decoded Update w = C.Update (rectAt w 1)
@@ -49,7 +53,7 @@ decoded RectFill w = C.RectFill (getD w 1 0) (rectAt w 2)
 decoded RectCopy w = C.RectCopy (sourceAt w 1) (rectAt w 3)
 decoded RectRopFill w = C.RectRopFill (getD w 1 0) (rectAt w 2) (getD w 6 0)
 decoded RectRopCopy w = C.RectRopCopy (sourceAt w 1) (rectAt w 3) (getD w 7 0)
-decoded DefineAlphaCursor w = C.DefineAlphaCursor (record { id = getD w 1 0; hotx = getD w 2 0; hoty = getD w 3 0; w = getD w 4 0; h = getD w 5 0 })
+decoded DefineAlphaCursor w = C.DefineAlphaCursor (shapeAt w 1)
 decoded UpdateVerbose w = C.UpdateVerbose (rectAt w 1) (getD w 5 0)
 decoded Fence w = C.Fence (getD w 1 0)
 decoded Escape w = C.Escape (getD w 1 0) (getD w 2 0)

@@ -7,13 +7,10 @@ use native.Mathlib.Omega.{arith}
 use borrow.Author.Tests.{le-ltb}
 use Rattle.pixel.specs.RasterOperation.{rasterOp}
 use Rattle.pixel.specs.Blend.{topByte, blendColour, blendPixel}
-use Rattle.pixel.proofs.Bitwise.{source, dest, under, raster, named}
+use Rattle.pixel.proofs.Bitwise.{source, under, raster, named}
 
 pub copy-stores-source : (s d : ℕ) → s < 2 ^ 32 → d < 2 ^ 32 → rasterOp 3 s d ≡ s
 copy-stores-source s d h k = sym (named source 3 refl refl refl refl s d h k)
-
-pub noop-keeps : (s d : ℕ) → s < 2 ^ 32 → d < 2 ^ 32 → rasterOp 5 s d ≡ d
-noop-keeps s d h k = sym (named dest 5 refl refl refl refl s d h k)
 
 pub no-operation : (rop s d : ℕ) → 16 ≤ rop → rasterOp rop s d ≡ d
 unfolding rasterOp

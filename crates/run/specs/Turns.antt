@@ -3,8 +3,7 @@ use Prim.Native.Nat.{ℕ, _+_, _/_, _%_, _≤_, _<_}
 use mathlib.Core.Bool.{Bool, cond, _&&_}
 use mathlib.Core.List.{List}
 use lib.Dec.{eqb, ltb, leb}
-use lib.ListN.{length, getD}
-use Rattle.cursor.specs.declared.Shape.{Shape}
+use lib.ListN.{length}
 use Rattle.order.specs.declared.End.the-variants.{Fault}
 use Rattle.order.specs.declared.Cause.the-variants.{BadNext}
 use Rattle.ring.specs.declared.Ring.{Ring}
@@ -25,9 +24,6 @@ pub record InView (v : View) (m : ℕ) : Type 0 where
   pub below : v .at < v .hi
   pub held : v .n + v .lo ≤ v .hi
   pub fits : v .hi ≤ m
-
-abbrev pub shapeAt : List ℕ → Shape
-shapeAt w = record { id = getD w 1 0; hotx = getD w 2 0; hoty = getD w 3 0; w = getD w 4 0; h = getD w 5 0 }
 
 -- The remembered ring lies in a memory of m words.
 unfoldable pub placed : Ring → ℕ → Bool

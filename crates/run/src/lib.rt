@@ -12,8 +12,8 @@ ghost use mathlib.Core.Path.{_≡_};
 ghost use Prim.Native.Nat.{_≤_, _<_};
 ghost use lib.ListN.{length, getD};
 ghost use Rattle.ring.specs.Waiting.{between, carried};
-ghost use Rattle.command.specs.Words.{rectAt, sourceAt, decoded, turnWords};
-ghost use Rattle.run.specs.Turns.{InView, wordsIn, shapeAt, placed, nextGood, turnIn};
+ghost use Rattle.command.specs.Words.{rectAt, sourceAt, shapeAt, decoded, turnWords};
+ghost use Rattle.run.specs.Turns.{InView, wordsIn, placed, nextGood, turnIn};
 
 // The words that wait in a ring from word lo to below word hi: n of them, from word at on.
 struct View {
@@ -69,7 +69,7 @@ fn source_at(ring: &[u32], v: View) -> Source
 
 fn shape_at(ring: &[u32], v: View) -> Shape
     requires { ⌜ InView v (length (now ring)) ⌝ }
-    ensures { λ r. ⌜ r ≡ shapeAt (wordsIn (now (ring .entry)) v) ⌝ }
+    ensures { λ r. ⌜ r ≡ shapeAt (wordsIn (now (ring .entry)) v) 1 ⌝ }
 {
     Shape {
         id: word_at(ring, v, 1),
