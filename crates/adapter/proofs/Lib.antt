@@ -3,3 +3,4 @@ pub mod Kept
 pub mod Refusals
 pub mod Readings
 pub mod Negotiation
+pub mod RunLaws

@@ -4,3 +4,4 @@ pub mod Registers
 pub mod Picture
 pub mod Offscreen
 pub mod Fence
+pub mod Run

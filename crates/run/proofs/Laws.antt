@@ -20,22 +20,30 @@ use Rattle.command.specs.Commands.{kindOf, offered, headWords, turnOn}
 use Rattle.command.specs.Words.{decoded, turnWords}
 use Rattle.command.proofs.Laws.{turn-first}
 use Rattle.run.specs.declared.View.{View}
-use Rattle.run.specs.Turns.{InView, wordsIn, placed, nextGood}
+use Rattle.run.specs.Turns.{InView, wordsIn, viewOf, placed, nextGood}
 
 -- the bounds of a remembered ring that lies in a memory of m words
 pub record Placed (g : Ring) (m : ℕ) : Type 0 where
   pub past-head : 4 ≤ g .min
   pub from : g .min ≤ g .stop
   pub below : g .stop < g .max
+  pub small : g .max ≤ 524288
   pub fits : g .max ≤ m
 
 pub placed-says : (g : Ring) (m : ℕ) → placed g m ≡ true → Placed g m
 unfolding placed
 placed-says g m e =
-    let p = both (leb 4 (g .min)) (leb (g .min) (g .stop) && (ltb (g .stop) (g .max) && leb (g .max) m)) e in
-    let q = both (leb (g .min) (g .stop)) (ltb (g .stop) (g .max) && leb (g .max) m) (p .1) in
-    let r = both (ltb (g .stop) (g .max)) (leb (g .max) m) (q .1) in
-    record { past-head = leb-true _ _ (p .0); from = leb-true _ _ (q .0); below = ltb-true _ _ (r .0); fits = leb-true _ _ (r .1) }
+    let p = both (leb 4 (g .min)) _ e in
+    let q = both (leb (g .min) (g .stop)) _ (p .1) in
+    let r = both (ltb (g .stop) (g .max)) _ (q .1) in
+    let t = both (leb (g .max) 524288) _ (r .1) in
+    record {
+      past-head = leb-true _ _ (p .0);
+      from = leb-true _ _ (q .0);
+      below = ltb-true _ _ (r .0);
+      small = leb-true _ _ (t .0);
+      fits = leb-true _ _ (t .1);
+    }
 
 pub next-says : (g : Ring) (next : ℕ) → nextGood g next ≡ true → (g .min ≤ next / 4) × (next / 4 < g .max)
 unfolding nextGood
@@ -46,7 +54,7 @@ next-says g next e =
 
 -- the view of the words that wait lies in the memory
 pub in-view : (g : Ring) (m next : ℕ) → placed g m ≡ true → nextGood g next ≡ true
-    → InView (record { lo = g .min; hi = g .max; at = g .stop; n = between (g .min) (g .max) (g .stop) (next / 4) }) m
+    → InView (viewOf g next) m
 in-view g m next there good =
     let p = placed-says g m there in
     let q = next-says g next good in

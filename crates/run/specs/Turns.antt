@@ -1,17 +1,12 @@
--- What a turn finds in a ring memory: document 01, "One command out of the ring".
-use Prim.Native.Nat.{ℕ, _+_, _/_, _%_, _≤_, _<_}
-use mathlib.Core.Bool.{Bool, cond, _&&_}
+-- The words that wait in a ring memory, as a run walks over them: document 01, "One command out of the ring".
+use Prim.Native.Nat.{ℕ, _+_, _-_, _*_, _/_, _%_, _≤_, _<_}
+use mathlib.Core.Bool.{Bool, _&&_}
 use mathlib.Core.List.{List}
 use lib.Dec.{eqb, ltb, leb}
-use lib.ListN.{length}
-use Rattle.order.specs.declared.End.the-variants.{Fault}
-use Rattle.order.specs.declared.Cause.the-variants.{BadNext}
 use Rattle.ring.specs.declared.Ring.{Ring}
-use Rattle.ring.specs.Acceptance.{nextOf}
-use Rattle.ring.specs.Waiting.{words, waiting, carried}
-use Rattle.command.specs.declared.Turn.{Turn}
-use Rattle.command.specs.declared.Turn.the-variants.{Ends}
-use Rattle.command.specs.Words.{turnWords}
+use Rattle.ring.specs.Waiting.{ahead, between, words}
+use Rattle.command.specs.declared.Action.{Action}
+use Rattle.command.specs.declared.Action.the-variants.{Update, Fill, Copy, Define, Fence, Nothing}
 use Rattle.run.specs.declared.View.{View}
 
 -- The words of a view.
@@ -25,17 +20,27 @@ pub record InView (v : View) (m : ℕ) : Type 0 where
   pub held : v .n + v .lo ≤ v .hi
   pub fits : v .hi ≤ m
 
--- The remembered ring lies in a memory of m words.
+-- A view behind its first k words.
+abbrev pub passedIn : View → ℕ → View
+passedIn v k = record { lo = v .lo; hi = v .hi; at = ahead (v .lo) (v .hi) (v .at) k; n = v .n - k }
+
+-- The words that wait from STOP up to a usable NEXT_CMD.
+abbrev pub viewOf : Ring → ℕ → View
+viewOf g next = record { lo = g .min; hi = g .max; at = g .stop; n = between (g .min) (g .max) (g .stop) (next / 4) }
+
+-- The pixels of a cursor that is to be defined are among n words, behind the six of its head, and fit the cursor image.
+abbrev pub Ready : Action → ℕ → Type 0
+Ready (Update r) n = Unit {0}
+Ready (Fill r colour rop) n = Unit {0}
+Ready (Copy from r rop) n = Unit {0}
+Ready (Define s) n = (6 + s .w * s .h ≤ n) × (s .w ≤ 64) × (s .h ≤ 64)
+Ready (Fence number) n = Unit {0}
+Ready Nothing n = Unit {0}
+
+-- The remembered ring lies in a memory of m words, and in the largest that a device can have, 2,097,152 bytes.
 unfoldable pub placed : Ring → ℕ → Bool
-placed g m = leb 4 (g .min) && (leb (g .min) (g .stop) && (ltb (g .stop) (g .max) && leb (g .max) m))
+placed g m = leb 4 (g .min) && (leb (g .min) (g .stop) && (ltb (g .stop) (g .max) && (leb (g .max) 524288 && leb (g .max) m)))
 
 -- "NEXT_CMD not a multiple of 4 or outside the ring: 13."
 unfoldable pub nextGood : Ring → ℕ → Bool
 nextGood g next = eqb (next % 4) 0 && (leb (g .min) (next / 4) && ltb (next / 4) (g .max))
-
--- What the next turn finds.
-unfoldable pub turnIn : List ℕ → Ring → Turn
-turnIn ring g =
-    cond (placed g (length ring) && nextGood g (nextOf ring))
-    (turnWords (carried (g .min) (g .max)) (waiting ring (g .min) (g .max) (g .stop) (nextOf ring / 4)))
-    (Ends (Fault BadNext))

@@ -14,5 +14,6 @@ is-placed-spec =
     (λ c. rw (lt-leb 4 _ (c .if1 .taken)))
     (λ c. rw (le-leb 4 _ (c .before .before .if1 .left), lt-leb _ _ (c .if2 .taken)))
     (λ c. rw (le-leb 4 _ (c .before .before .before .before .if1 .left), le-leb _ _ (c .before .before .if2 .left), le-ltb _ _ (c .if3 .taken)))
+    (λ c. rw (le-leb 4 _ (c .before .before .before .before .before .before .if1 .left), le-leb _ _ (c .before .before .before .before .if2 .left), lt-ltb _ _ (c .before .before .if3 .left), lt-leb _ _ (c .if4 .taken)))
     (λ c. search needs)
-    (λ c. rw (le-leb 4 _ (c .before .before .before .before .before .if1 .left), le-leb _ _ (c .before .before .before .if2 .left), lt-ltb _ _ (c .before .if3 .left))))
+    (λ c. rw (le-leb 4 _ (c .before .before .before .before .before .before .before .if1 .left), le-leb _ _ (c .before .before .before .before .before .if2 .left), lt-ltb _ _ (c .before .before .before .if3 .left), le-leb _ _ (c .before .if4 .left))))

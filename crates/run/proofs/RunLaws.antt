@@ -1,0 +1,101 @@
+-- A run by its first tests.
+-- Assumes nothing.
+use mathlib.Core.Path.{_≡_, refl, sym, ap, _∙_}
+use mathlib.Core.Bool.{true, false}
+use mathlib.Core.List.{List}
+use Prim.Native.Nat.{ℕ, zero, suc, _-_, _/_, _≤_, _<_}
+use native.Mathlib.Omega.{arith}
+use lib.ListN.{length}
+use borrow.Author.Tests.{ne-eqb, eqb-true}
+use Rattle.geometry.proofs.Tests.{both}
+use Rattle.order.specs.declared.End.the-variants.{Fault}
+use Rattle.order.specs.declared.Cause.the-variants.{BadNext}
+use Rattle.order.specs.Straight as O
+use Rattle.order.specs.Straight.{ends}
+use Rattle.order.specs.Table.{turnOf, unless}
+use Rattle.order.specs.Claim as Claim
+use Rattle.order.specs.Queue.{runs}
+use Rattle.order.proofs.QueueLaws.{runs-ends}
+use Rattle.ring.specs.declared.Ring.{Ring}
+use Rattle.ring.specs.Acceptance.{nextOf}
+use Rattle.ring.specs.Waiting.{ahead, waiting, carried}
+use Rattle.ring.proofs.WaitingLaws.{ahead-zero}
+use Rattle.effect.specs.Effects.{Machine}
+use Rattle.run.specs.declared.View.{View}
+use Rattle.run.specs.Turns.{InView, wordsIn, viewOf, placed, nextGood}
+use Rattle.run.specs.Run.{Scene, table, placeOf, turnIn, Outcome, left, runWords, lost, fitting, runIn}
+use Rattle.run.proofs.Laws.{Placed, placed-says, next-says, in-view}
+
+-- where the tests of lengths fail
+pub run-unfit : (s : Scene) (g : Ring) (budget : ℕ) (ring : List ℕ) (m : Machine) → fitting g (length ring) (length (m .cursor)) ≡ false
+    → runIn s g budget ring m ≡ record { answer = Claim.ended (Fault BadNext); count = 0; place = g; ring = ring; machine = m }
+unfolding runIn
+run-unfit s g budget ring m e = rw e
+
+pub fitting-placed : (g : Ring) (words image : ℕ) → fitting g words image ≡ true → placed g words ≡ true
+unfolding fitting
+fitting-placed g words image e = both (placed g words) _ e .0
+
+-- a run that ends in its first turn leaves all as it was
+left-same : (g : Ring) (ring words : List ℕ) (a : Claim.Answer) (m : Machine) → g .stop < g .max
+    → left g ring words (record { answer = a; count = 0; line = record { words = words; machine = m } })
+    ≡ record { answer = a; count = 0; place = g; ring = ring; machine = m }
+unfolding left
+left-same g ring words a m h =
+    let none : length words - length words ≡ 0 = omega arith in
+    let same : ahead (g .min) (g .max) (g .stop) (length words - length words) ≡ g .stop = rw none (ahead-zero (g .min) (g .max) (g .stop) h) in
+    λ i. record { answer = a; count = 0; place = record { min = g .min; max = g .max; stop = same i }; ring = ring; machine = m }
+
+-- NEXT_CMD unusable
+turn-lost : (s : Scene) (g : Ring) (next : ℕ) (m : Machine) (w : List ℕ) → nextGood g next ≡ false → turnIn s g next m w ≡ ends (Fault BadNext)
+unfolding turnIn unless
+turn-lost s g next m w e = rw e
+
+runs-lost : (s : Scene) (g : Ring) (next budget : ℕ) (m : Machine) (w : List ℕ) → nextGood g next ≡ false
+    → runs (turnIn s g next) budget (record { words = w; machine = m }) ≡ record { answer = lost budget; count = 0; line = record { words = w; machine = m } }
+unfolding runs lost
+runs-lost s g next zero m w e = refl
+runs-lost s g next (suc b) m w e =
+    runs-ends (turnIn s g next) b (record { words = w; machine = m }) (Fault BadNext) (turn-lost s g next m w e) ∙ rw (ne-eqb (suc b) 0 (omega arith))
+
+pub run-lost : (s : Scene) (g : Ring) (budget : ℕ) (ring : List ℕ) (m : Machine) → fitting g (length ring) (length (m .cursor)) ≡ true → nextGood g (nextOf ring) ≡ false
+    → runIn s g budget ring m ≡ record { answer = lost budget; count = 0; place = g; ring = ring; machine = m }
+unfolding runIn runWords
+run-lost s g budget ring m fits bad =
+    let p = placed-says g (length ring) (fitting-placed g _ _ fits) in
+    rw (fits, runs-lost s g (nextOf ring) budget m _ bad) (left-same g ring _ _ m (p .below))
+
+-- NEXT_CMD usable: the turn is straight execution's
+turn-kept : (s : Scene) (g : Ring) (next : ℕ) → nextGood g next ≡ true → turnIn s g next ≡ turnOf (carried (g .min) (g .max)) (table s)
+unfolding turnIn unless
+turn-kept s g next e = λ i m w. same m w i
+  where
+    same : (m : Machine) (w : List ℕ) → turnIn s g next m w ≡ turnOf (carried (g .min) (g .max)) (table s) m w
+    same m w = rw e
+
+pub run-good : (s : Scene) (g : Ring) (budget : ℕ) (ring : List ℕ) (m : Machine) (v : View) → fitting g (length ring) (length (m .cursor)) ≡ true
+    → nextGood g (nextOf ring) ≡ true → v ≡ viewOf g (nextOf ring)
+    → runWords (turnOf (carried (v .lo) (v .hi)) (table s)) (placeOf v) budget ring (wordsIn ring v) m ≡ runIn s g budget ring m
+unfolding runIn waiting
+run-good s g budget ring m v fits good e =
+    ap (λ (x : View). runWords (turnOf (carried (x .lo) (x .hi)) (table s)) (placeOf x) budget ring (wordsIn ring x) m) e
+    ∙ rw fits (ap (λ (t : Machine → List ℕ → O.Turn Machine). runWords t g budget ring (wordsIn ring (viewOf g (nextOf ring))) m) (sym (turn-kept s g (nextOf ring) good)))
+
+-- what the places of the ring's words ask for
+pub can-view : (g : Ring) (words image next : ℕ) → fitting g words image ≡ true → nextGood g next ≡ true
+    → (g .min ≤ g .stop) × (g .stop < g .max) × (g .min ≤ next / 4) × (next / 4 < g .max)
+can-view g words image next fits good =
+    let p = placed-says g words (fitting-placed g words image fits) in
+    let q = next-says g next good in
+    (p .from, p .below, q .0, q .1)
+
+pub head-there : (g : Ring) (words image : ℕ) → fitting g words image ≡ true → 2 < words
+head-there g words image fits = let p = placed-says g words (fitting-placed g words image fits) in omega arith
+
+pub can-turn : (g : Ring) (words image next : ℕ) (v : View) → fitting g words image ≡ true → nextGood g next ≡ true → v ≡ viewOf g next
+    → InView v words × ((4 ≤ v .lo) × (v .hi ≤ 524288)) × (image ≡ 4096)
+unfolding fitting
+can-turn g words image next v fits good e =
+    let there = fitting-placed g words image fits in
+    let p = placed-says g words there in
+    rw e (in-view g words next there good, (p .past-head, p .small), eqb-true _ _ (both (placed g words) _ fits .1))

@@ -1,0 +1,110 @@
+-- A run: document 01, "One command out of the ring".
+use Prim.Native.Nat.{ℕ, _-_, _*_, _/_}
+use mathlib.Core.Bool.{Bool, cond, _&&_}
+use mathlib.Core.List.{List}
+use lib.Dec.{eqb}
+use lib.ListN.{length, set}
+use Rattle.order.specs.declared.End.the-variants.{Fault}
+use Rattle.order.specs.declared.Cause.the-variants.{BadNext}
+use Rattle.order.specs.Straight.{ends}
+use Rattle.order.specs.Straight as O
+use Rattle.order.specs.Table.{Table, turnOf, unless}
+use Rattle.order.specs.Claim as Claim
+use Rattle.order.specs.Queue as Queue
+use Rattle.ring.specs.declared.Ring.{Ring}
+use Rattle.ring.specs.Acceptance.{nextOf}
+use Rattle.ring.specs.Waiting.{ahead, waiting, carried}
+use Rattle.command.specs.Offered.{commands}
+use Rattle.effect.specs.declared.Marks.{Marks}
+use Rattle.effect.specs.Effects.{Machine, done}
+use Rattle.run.specs.declared.View.{View}
+use Rattle.run.specs.declared.Answer.{Answer}
+use Rattle.run.specs.declared.Answer.the-variants.{Spent, Ended}
+use Rattle.run.specs.declared.Ran.{Ran}
+use Rattle.run.specs.Turns.{placed, nextGood}
+
+-- What a run does not change: the mode and the framebuffer.
+pub record Scene : Type 0 where
+  pub width : ℕ
+  pub rows : ℕ
+  pub framebuffer : List ℕ
+
+abbrev pub scene : ℕ → ℕ → List ℕ → Scene
+scene width rows framebuffer = record { width = width; rows = rows; framebuffer = framebuffer }
+
+-- The machine of straight execution, from what the code holds.
+abbrev pub machine : Marks → List ℕ → List ℕ → Machine
+machine marks screen cursor = record { screen = screen; cursor = cursor; marks = marks }
+
+-- Document 01's commands, each doing what the contracts of the painters, of the cursor's copy and of the fence say.
+abbrev pub table : Scene → Table Machine
+table s = commands (done (s .width) (s .rows) (s .framebuffer))
+
+-- "Each turn, in this order: budget used up: 2. NEXT_CMD not a multiple of 4 or outside the ring: 13. NEXT_CMD = STOP: 0. .." The budget is looked at by
+-- `runs`, what follows 13 by `turnOf`. A run does not write NEXT_CMD, so it is the same in each turn.
+unfoldable pub turnIn : Scene → Ring → ℕ → Machine → List ℕ → O.Turn Machine
+turnIn s g next m w = unless (nextGood g next) (ends (Fault BadNext)) (turnOf (carried (g .min) (g .max)) (table s) m w)
+
+-- "STOP passes it": n words on.
+abbrev pub passed : Ring → ℕ → Ring
+passed g n = record { min = g .min; max = g .max; stop = ahead (g .min) (g .max) (g .stop) n }
+
+-- "ring word 3 is written": all that a run writes into ring words, in bytes.
+unfoldable pub stamped : Ring → List ℕ → List ℕ
+stamped g ring = set ring 3 (g .stop * 4)
+
+-- What a run gives: its answer, "the number of commands consumed in this run", and all that it can change.
+pub record Outcome : Type 0 where
+  pub answer : Claim.Answer
+  pub count : ℕ
+  pub place : Ring
+  pub ring : List ℕ
+  pub machine : Machine
+
+abbrev pub answerOf : Answer → Claim.Answer
+answerOf Spent = Claim.spent
+answerOf (Ended e) = Claim.ended e
+
+abbrev pub outcome : Ran → List ℕ → List ℕ → List ℕ → Outcome
+outcome r ring screen cursor = record {
+  answer = answerOf (r .answer);
+  count = r .count;
+  place = r .ring;
+  ring = ring;
+  machine = machine (r .marks) screen cursor;
+}
+
+-- STOP has passed the words that turns dropped. "The run changes no other ring word, and none if it consumed nothing."
+unfoldable pub left : Ring → List ℕ → List ℕ → Queue.Ran Machine → Outcome
+left g ring words r =
+    let to = passed g (length words - length (r .line .words)) in
+    record {
+      answer = r .answer;
+      count = r .count;
+      place = to;
+      ring = cond (eqb (r .count) 0) ring (stamped to ring);
+      machine = r .line .machine;
+    }
+
+-- A run of all turns on these words.
+unfoldable pub runWords : (Machine → List ℕ → O.Turn Machine) → Ring → ℕ → List ℕ → List ℕ → Machine → Outcome
+runWords turn g budget ring words m = left g ring words (Queue.runs turn budget (record { words = words; machine = m }))
+
+-- The remembered ring of a view.
+abbrev pub placeOf : View → Ring
+placeOf v = record { min = v .lo; max = v .hi; stop = v .at }
+
+-- The answer where NEXT_CMD is unusable: "budget used up: 2" comes before 13.
+unfoldable pub lost : ℕ → Claim.Answer
+lost budget = cond (eqb budget 0) Claim.spent (Claim.ended (Fault BadNext))
+
+-- The remembered ring lies in the ring memory, and the cursor image has its 4,096 words.
+unfoldable pub fitting : Ring → ℕ → ℕ → Bool
+fitting g words image = placed g words && eqb image 4096
+
+-- A run. With a ring that lies outside its memory, or another cursor image, it does nothing and answers 13; no device gets there.
+unfoldable pub runIn : Scene → Ring → ℕ → List ℕ → Machine → Outcome
+runIn s g budget ring m =
+    cond (fitting g (length ring) (length (m .cursor)))
+    (runWords (turnIn s g (nextOf ring)) g budget ring (waiting ring (g .min) (g .max) (g .stop) (nextOf ring / 4)) m)
+    (record { answer = Claim.ended (Fault BadNext); count = 0; place = g; ring = ring; machine = m })
