@@ -1,4 +1,4 @@
--- Laws of an append: the waiting words become longer by its word, it is refused exactly where the ring is full, and it leaves everything else alone.
+-- Laws of an append: the waiting words become longer by its word, it is refused exactly where the ring is full, and it leaves everything else alone; and what it answers at each of its three ends.
 -- Assumes nothing.
 use mathlib.Core.Path.{_≡_, sym, ap₂, _∙_}
 use mathlib.Core.Bool.{true, false}
@@ -9,10 +9,11 @@ use native.Mathlib.Omega.{arith}
 use lib.ListN.{length, getD, set, length-set}
 use lib.Seq.{getD-set-same, getD-set-other}
 use lib.Dec.{eqb}
-use borrow.Author.Tests.{eqb-true, eqb-false, eq-eqb, lt-ltb, le-ltb, not-true, not-false}
+use borrow.Author.Tests.{eqb-true, eqb-false, eq-eqb, ne-eqb, lt-ltb, le-ltb, not-true, not-false}
 use Rattle.ring.specs.Acceptance.{minOf, maxOf, nextOf, stopOf, usable}
 use Rattle.ring.specs.Waiting.{after, between, words, waiting, carried}
-use Rattle.ring.specs.Append.{movedOn, canAppend, appendTo}
+use Rattle.ring.specs.declared.AppendAnswer.the-variants.{Taken, Refused}
+use Rattle.ring.specs.Append.{movedOn, canAppend, appendTo, appended, appendOf}
 use Rattle.ring.proofs.Laws.{both, Usable, usable-when, when-usable}
 use Rattle.ring.proofs.WaitingLaws.{by-test, words-outside, words-snoc, between-in, between-after, between-full, ahead-between, length-waiting}
 
@@ -154,3 +155,17 @@ module _ (ring : List ℕ) (lo hi stop : ℕ) (low : lo ≡ minOf ring / 4) (hig
         (λ e. let v : after lo hi (nextOf ring / 4) ≡ stop = f .1 (sym n ∙ e) in
             rw (good, eq-eqb (movedOn (minOf ring) (maxOf ring) (nextOf ring)) (stopOf ring) (omega arith))),
       )
+
+-- what an append answers and leaves, at each of its three ends
+pub append-of-unusable : (ring : List ℕ) (x : ℕ) → usable ring ≡ false → appended Refused ring ≡ appendOf ring x
+unfolding appendOf appendTo canAppend
+append-of-unusable ring x e = rw e
+
+module _ (ring : List ℕ) (x moved : ℕ) (good : usable ring ≡ true) (on : moved ≡ movedOn (minOf ring) (maxOf ring) (nextOf ring)) where
+  pub append-of-full : moved ≡ stopOf ring → appended Refused ring ≡ appendOf ring x
+  unfolding appendOf appendTo canAppend
+  append-of-full e = rw (good, sym on, eq-eqb moved (stopOf ring) e)
+
+  pub append-of-taken : moved ≢ stopOf ring → appended Taken (set (set ring (nextOf ring / 4) x) 2 moved) ≡ appendOf ring x
+  unfolding appendOf appendTo canAppend
+  append-of-taken e = rw (good, sym on, ne-eqb moved (stopOf ring) e)

@@ -4,6 +4,8 @@ use mathlib.Core.List.{List}
 use Prim.Native.Nat.{ℕ, _+_, _/_}
 use lib.Dec.{eqb}
 use lib.ListN.{set}
+use Rattle.ring.specs.declared.AppendAnswer.{AppendAnswer}
+use Rattle.ring.specs.declared.AppendAnswer.the-variants.{Taken, Refused}
 use Rattle.ring.specs.Acceptance.{minOf, maxOf, nextOf, stopOf, usable}
 
 -- "moves NEXT_CMD on by 4, MAX becoming MIN"
@@ -18,3 +20,20 @@ canAppend ring = usable ring && not (eqb (movedOn (minOf ring) (maxOf ring) (nex
 unfoldable pub appendTo : List ℕ → ℕ → List ℕ
 appendTo ring x =
     cond (canAppend ring) (set (set ring (nextOf ring / 4) x) 2 (movedOn (minOf ring) (maxOf ring) (nextOf ring))) ring
+
+-- An append's number is 0 where its word was taken and 1 where it was refused: document 01's table has none.
+abbrev pub appendNumber : AppendAnswer → ℕ
+appendNumber Taken = 0
+appendNumber Refused = 1
+
+-- An append answers a number and leaves the ring memory.
+pub record Appended : Type 0 where
+  pub answer : ℕ
+  pub ring : List ℕ
+
+abbrev pub appended : AppendAnswer → List ℕ → Appended
+appended a ring = record { answer = appendNumber a; ring = ring }
+
+-- "0 taken, 1 refused": what an append answers and leaves.
+unfoldable pub appendOf : List ℕ → ℕ → Appended
+appendOf ring x = record { answer = cond (canAppend ring) 0 1; ring = appendTo ring x }

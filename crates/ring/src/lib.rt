@@ -1,7 +1,9 @@
-// The command ring's words 0 to 3, MIN, MAX, NEXT_CMD and STOP: when they are accepted, and what is then remembered.
+// The command ring's words 0 to 3, MIN, MAX, NEXT_CMD and STOP: when they are accepted, what is then remembered, and the guest's append.
 ghost use mathlib.Core.Path.{_≡_};
+ghost use Prim.Native.Nat.{_+_, _≤_};
 ghost use lib.ListN.{length};
 ghost use Rattle.ring.specs.Acceptance.{offsetUsable, boundsUsable, usable, accepted};
+ghost use Rattle.ring.specs.Append.{movedOn, appendNumber, appended, appendOf};
 
 // The remembered ring, in words of the ring memory: from min to below max, the next command at stop.
 pub struct Ring {
@@ -13,6 +15,21 @@ pub struct Ring {
 pub enum Acceptance {
     Accepted(Ring),
     Refused,
+}
+
+pub enum AppendAnswer {
+    Taken,
+    Refused,
+}
+
+// Rules out: 0 for a refused append; 1 for a taken one.
+pub fn append_number(answer: AppendAnswer) -> u32
+    ensures { λ r. ⌜ r ≡ appendNumber answer ⌝ }
+{
+    match answer {
+        AppendAnswer::Taken => 0,
+        AppendAnswer::Refused => 1,
+    }
 }
 
 fn offset_usable(min: u32, max: u32, offset: u32) -> bool
@@ -80,4 +97,35 @@ pub fn accept(ring: &[u32]) -> Acceptance
         max: ring[1] / 4,
         stop: ring[3] / 4,
     })
+}
+
+fn moved_on(min: u32, max: u32, offset: u32) -> u32
+    requires { ⌜ offset + 4 ≤ max ⌝ }
+    ensures { λ r. ⌜ r ≡ movedOn min max offset ⌝ }
+{
+    let moved = offset + 4;
+    if moved == max {
+        return min;
+    }
+    moved
+}
+
+// The guest's append: its word at NEXT_CMD, and NEXT_CMD moved on; refused where the ring is full or its words are not usable.
+// Rules out: a full ring that takes one word more; NEXT_CMD moved on to MAX instead of MIN; a word stored by an append that is refused.
+pub fn append(ring: &mut [u32], word: u32) -> AppendAnswer
+    ensures { λ r. ⌜ appended r (now (ring .exit)) ≡ appendOf (now (ring .entry)) word ⌝ }
+{
+    let good = is_usable(ring);
+    if !good {
+        return AppendAnswer::Refused;
+    }
+    let next = ring[2];
+    let moved = moved_on(ring[0], ring[1], next);
+    if moved == ring[3] {
+        return AppendAnswer::Refused;
+    }
+    let at = (next / 4) as usize;
+    ring[at] = word;
+    ring[2] = moved;
+    AppendAnswer::Taken
 }
