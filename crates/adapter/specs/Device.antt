@@ -28,6 +28,18 @@ widthOf d = d .registers .width
 abbrev pub heightOf : Device → ℕ
 heightOf d = d .registers .height
 
+abbrev pub enabledOf : Device → Bool
+enabledOf d = d .registers .enable
+
+abbrev pub configuredOf : Device → Bool
+configuredOf d = d .registers .config
+
+abbrev pub definedOf : Device → Defined
+definedOf d = d .defined
+
+abbrev pub conditionOf : Device → Condition
+conditionOf d = d .condition
+
 -- ---- making
 
 -- "M is a multiple of 4 from 10,256 to 2,097,152; P is 1 to 4,096,000"

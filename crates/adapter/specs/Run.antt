@@ -16,7 +16,7 @@ use Rattle.adapter.specs.declared.Device.{Device}
 use Rattle.adapter.specs.declared.Ran.{Ran}
 use Rattle.adapter.specs.declared.RunAnswer.{RunAnswer}
 use Rattle.adapter.specs.declared.RunAnswer.the-variants.{Spent, Ended, WrongLength, Disabled, NotConfigured, FaultStands, TooLarge}
-use Rattle.adapter.specs.Device.{memoryOf, pixelsOf, widthOf, heightOf, made}
+use Rattle.adapter.specs.Device.{memoryOf, pixelsOf, widthOf, heightOf, enabledOf, configuredOf, made}
 
 -- run: 0 drained, 1 waiting for the rest of a command, 2 budget spent, 10 to 13 a fault, 20 lent length, 21 disabled, 22 not configured, 23 fault
 -- already standing, 24 width·height above P
@@ -52,6 +52,13 @@ ranOf r ring screen cursor = record {
 unfoldable pub lentGood : Device → ℕ → ℕ → ℕ → ℕ → Bool
 lentGood d ring framebuffer screen cursor =
     eqb ring (memoryOf d / 4) && (eqb framebuffer (pixelsOf d) && (eqb screen (pixelsOf d) && eqb cursor 4096))
+
+-- Whether a run is refused with neither 20, 21, 22 nor 24: what is left of its refusals is 23, a standing fault.
+unfoldable pub ready : Device → ℕ → ℕ → ℕ → ℕ → Bool
+ready d ring framebuffer screen cursor =
+    made d
+    && (lentGood d ring framebuffer screen cursor
+    && (configuredOf d && (enabledOf d && leb (widthOf d * heightOf d) (pixelsOf d))))
 
 -- "A fault consumes nothing of its command and stands until CONFIG_DONE 1 is accepted"; else the ring is remembered with STOP as the run left it.
 unfoldable pub conditionAfter : Answer → Ring → Condition

@@ -19,12 +19,12 @@ ghost use Rattle.run.specs.Run.{answerOf, outcome as after};
 ghost use Rattle.adapter.specs.declared.Condition.the-variants.{Running};
 ghost use mathlib.Core.Path.{_≡_};
 ghost use mathlib.Core.Bool.{true};
-ghost use Rattle.adapter.specs.Device.{sizesGood, modeGood, ringGood, conditionGood, definedGood, made, widthOf, heightOf, withRegisters, withPlane, cursorDefined};
+ghost use Rattle.adapter.specs.Device.{sizesGood, modeGood, ringGood, conditionGood, definedGood, made, widthOf, heightOf, conditionOf, withRegisters, withPlane, cursorDefined};
 ghost use Rattle.adapter.specs.Answers.{creation, madeOf, writeNumber, pictureNumber, outcome, reading, pictured};
 ghost use Rattle.adapter.specs.Registers.{bit, writableValue, readOnlyValue, readOf, taken, idWritten, enableWritten, widthWritten, heightWritten, idled, unconfigured, acceptedWritten, configDoneWritten, running, synced, cursorOnWritten, writableWritten, written};
 ghost use Rattle.adapter.specs.Picture.{cursorOver, lengthsGood, pictureOf};
 ghost use Rattle.adapter.specs.Offscreen.{offscreenOf};
-ghost use Rattle.adapter.specs.Run.{runNumber, ranOf, lentGood, conditionAfter, busyAfter, ran, runBy, runOf};
+ghost use Rattle.adapter.specs.Run.{runNumber, ranOf, lentGood, ready, conditionAfter, busyAfter, ran, runBy, runOf};
 ghost use Rattle.adapter.specs.Fence.{fenceOf, fencePassed};
 
 // M, the bytes of the ring memory, and P, the pixels of framebuffer and screen.
@@ -971,6 +971,37 @@ pub fn run(
         Condition::Running(at) => run_ring(d, at, ring, framebuffer, screen, cursor, budget),
         Condition::Faulted(_) => refused(d, RunAnswer::FaultStands),
     }
+}
+
+// Whether a run with these lent lengths is refused with neither 20, 21, 22 nor 24.
+// Rules out: a disabled device that is ready; a device whose mode is larger than the screen.
+pub fn is_ready(d: Device, ring: usize, framebuffer: usize, screen: usize, cursor: usize) -> bool
+    ensures { λ r. ⌜ r ≡ ready d ring framebuffer screen cursor ⌝ }
+{
+    let good = is_made(d);
+    if !good {
+        return false;
+    }
+    let lent = lent_good(d, ring, framebuffer, screen, cursor);
+    if !lent {
+        return false;
+    }
+    let g = d.registers;
+    if g.config {
+        if g.enable {
+            let sizes = d.sizes;
+            return g.width * g.height <= sizes.pixels;
+        }
+    }
+    false
+}
+
+// The condition: idle, running with the remembered ring, or the fault that stands.
+// Rules out: a fault that is told as idle; a ring that is not the remembered one.
+pub fn condition_of(d: Device) -> Condition
+    ensures { λ r. ⌜ r ≡ conditionOf d ⌝ }
+{
+    d.condition
 }
 
 // ---- offscreen rectangle

@@ -1,0 +1,76 @@
+-- Demand 3 on a device and its memories: every list of appends and runs, through the public calls.
+-- Assumes nothing.
+use mathlib.Core.Path.{_≡_, refl, ap₂}
+use mathlib.Core.Bool.{true}
+use mathlib.Core.List.{List, [], _∷_, _++_, map}
+use Prim.Native.Nat.{ℕ, _+_, _-_}
+use native.Mathlib.Omega.{arith}
+use native.Mathlib.Nat.{add-zero, zero-add}
+use lib.ListN.{length, length-append}
+use Rattle.order.specs.Straight.{Turn}
+use Rattle.order.specs.Claim.{Op, taken, fed}
+use Rattle.order.specs.Claim as C
+use Rattle.order.specs.Queue.{Queue, fresh, act, play}
+use Rattle.order.proofs.QueueLaws.{play-ops, demand3}
+use Rattle.ring.specs.declared.Ring.{Ring}
+use Rattle.ring.specs.Waiting.{carried}
+use Rattle.command.proofs.Laws.{command-laws}
+use Rattle.effect.specs.Effects.{Machine}
+use Rattle.adapter.specs.declared.Condition.the-variants.{Running}
+use Rattle.adapter.specs.Device.{conditionOf}
+use Rattle.replay.specs.Calls.{World, Outcome, perform, performAll}
+use Rattle.replay.specs.Demand.{isStart, turnIn, machineIn, callOf, numbersOf, Demand, Shown}
+use Rattle.replay.specs.Replay.{opsOf, walk, walkOf, Replays}
+use Rattle.replay.proofs.Places.{in-words}
+use Rattle.replay.proofs.Steps.{Started, Shows, Step, shows-stands, shows-stop, append-step, run-step, started, start-shows}
+
+module _ (g : Ring) (w₀ : World) where
+  abbrev cap : ℕ
+  cap = carried (g .min) (g .max)
+
+  abbrev turn : Machine → List ℕ → Turn Machine
+  turn = turnIn w₀ g
+
+  -- a list of calls of the one is the list of operations of the other
+  record Plays (k : ℕ) (w : World) (q : Queue Machine) (os : List Op) : Type 0 where
+    told : map (λ (o : Outcome). o .answer ∷ o .values) (performAll (map callOf os) w .outcomes) ≡ map numbersOf (play cap turn os q .events)
+    shows : Shows g w₀ (k + length (fed (play cap turn os q .events))) (performAll (map callOf os) w .world) (play cap turn os q .queue)
+
+  module _ (st : Started w₀) where
+    step : (k : ℕ) (w : World) (q : Queue Machine) → Shows g w₀ k w q → (o : Op) → Step g w₀ k o (perform (callOf o) w) (act cap turn o q)
+    step k w q s (C.append x) = append-step g w₀ k w q s x
+    step k w q s (C.run b) = run-step g w₀ st k w q s b
+
+    plays : (os : List Op) (k : ℕ) (w : World) (q : Queue Machine) → Shows g w₀ k w q → Plays k w q os
+    unfolding performAll play fed
+    plays [] k w q s = record { told = refl; shows = rw add-zero s }
+    plays (o ∷ os) k w q s =
+        let f = step k w q s o in
+        let a = act cap turn o q in
+        let n = length (taken o (a .reply)) in
+        let r = plays os (k + n) (perform (callOf o) w .world) (a .queue) (f .shows) in
+        let same : k + n + length (fed (play cap turn os (a .queue) .events)) ≡ k + length (taken o (a .reply) ++ fed (play cap turn os (a .queue) .events)) =
+        rw length-append (omega arith) in
+        record { told = ap₂ _∷_ (f .told) (r .told); shows = rw (← same) (r .shows) }
+
+pub demand-3 : (g : Ring) (w₀ : World) → isStart w₀ ≡ true → conditionOf (w₀ .device) ≡ Running g → (os : List Op) → Shown g w₀ os (performAll (map callOf os) w₀)
+demand-3 g w₀ e q os =
+    let s₀ = start-shows g w₀ e q in
+    let i = in-words (g .min) (g .max) (w₀ .lent .ring) (s₀ .holds) in
+    let p = play (cap g w₀) (turn g w₀) os (fresh (machineIn w₀)) in
+    let r = plays g w₀ (started w₀ e) os 0 w₀ (fresh (machineIn w₀)) s₀ in
+    let s = rw zero-add at (r .shows) in
+    let laws = command-laws _ (cap g w₀) (omega arith) in
+    record {
+      events = p .events;
+      asked = play-ops (cap g w₀) (turn g w₀) os (fresh (machineIn w₀));
+      answered = r .told;
+      demand = record {
+        claim = rw (s .line, shows-stands g w₀ s) (demand3 laws (machineIn w₀) (omega arith) os);
+        word-3 = shows-stop g w₀ s;
+      };
+    }
+
+-- the same of a list of words
+pub replays : (w₀ : World) (list₀ list : List ℕ) (w : World) → isStart w₀ ≡ true → walk list w ≡ walkOf list₀ w₀ → Replays w₀ list₀ list w
+replays w₀ list₀ list w e q = record { start = e; calls = q; demand = λ g r. demand-3 g w₀ e r (opsOf list₀) }

@@ -1,0 +1,9 @@
+pub mod Laws
+pub mod Places
+pub mod Runs
+pub mod Steps
+pub mod StartTest
+pub mod Walks
+pub mod KeptByRun
+pub mod Starts
+pub mod NoHarm

@@ -1,0 +1,23 @@
+-- The test of a start in two parts: the device's, and the ring's.
+-- Assumes nothing.
+use mathlib.Core.Path.{_≡_}
+use mathlib.Core.Bool.{Bool, true, false, _&&_, and-assoc}
+use lib.ListN.{length}
+use Rattle.adapter.specs.Device.{conditionOf}
+use Rattle.adapter.specs.Run.{ready}
+use Rattle.replay.specs.Calls.{World}
+use Rattle.replay.specs.Demand.{ringAtStart, isStart}
+
+module _ (w : World) where
+  abbrev ready-now : Bool
+  ready-now = ready (w .device) (length (w .lent .ring)) (length (w .lent .framebuffer)) (length (w .lent .screen)) (length (w .lent .cursor))
+
+  parts : ready-now && ringAtStart (w .lent .ring) (conditionOf (w .device)) ≡ isStart w
+  unfolding ready isStart
+  parts = simp and-assoc
+
+  pub start-not : ready-now ≡ false → false ≡ isStart w
+  start-not e = rw e at parts
+
+  pub start-if : ready-now ≡ true → ringAtStart (w .lent .ring) (conditionOf (w .device)) ≡ isStart w
+  start-if e = rw e at parts

@@ -1,0 +1,21 @@
+-- `replay::perform_pair` meets its contract.
+-- Assumes nothing.
+use borrow.Author.Needs.{needs}
+use Rattle.replay.proofs.Walks.{pair-append, pair-run}
+use Rattle.replay.proofs.perform_pair.Statement.{statement}
+use Rattle.replay.proofs.perform_pair.Tie as tie
+
+pub perform-pair-spec : {M : Type 1} → statement M
+perform-pair-spec =
+    tie.close
+    (tie.spec
+    (λ c κs. search needs)
+    (λ c κs. search needs)
+    (λ c. search needs)
+    (λ c. pair-append _ _ _ _ _ _ _ _ _ (c .before .before .before .append .result) (c .before .before .before .before .before .if1 .taken) (c .before .before .before .append .ensures) (c .append-number .ensures))
+    (λ c κs. search needs)
+    (λ c κs. search needs)
+    (λ c. search needs)
+    (λ c. search needs)
+    (λ c. search needs)
+    (λ c. pair-run _ _ _ _ _ _ _ _ _ (c .before .before .before .before .before .before .before .before .run .result) _ _ (c .before .before .before .before .before .before .before .before .before .before .before .before .if1 .left) (c .before .before .before .before .before .before .before .before .run .ensures) (c .before .run-number .ensures)))

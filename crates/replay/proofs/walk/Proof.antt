@@ -1,0 +1,69 @@
+-- `replay::walk` meets its contract.
+-- Assumes nothing.
+use borrow.Author.Needs.{needs}
+use mathlib.Core.Path.{_≡_, refl, _∙_}
+use Prim.Native.Nat.{_-_}
+use native.Mathlib.Omega.{arith}
+use lib.ListN.{length, length-set}
+use Rattle.replay.specs.Replay.{world}
+use Rattle.replay.proofs.Walks.{Walked, walked-start, walked-more, walked-end}
+use Rattle.replay.proofs.walk.Statement.{statement}
+use Rattle.replay.proofs.walk.Tie as tie
+
+abbrev Inv-loop : tie.InvT-loop
+Inv-loop list₀ ring₀ framebuffer screen₀ cursor₀ d₀ i₀ list ring screen cursor d i =
+    Walked list₀ (world d₀ ring₀ framebuffer screen₀ cursor₀) list (world d ring framebuffer screen cursor) i
+    × (length ring ≡ length ring₀) × (length screen ≡ length screen₀) × (length cursor ≡ length cursor₀)
+
+abbrev μ-loop : tie.MeasureT-loop
+μ-loop list₀ ring₀ framebuffer screen₀ cursor₀ d₀ i₀ list ring screen cursor d i = length list - i
+
+-- the two words of a pair are in the list, and their places fit
+first : tie.Need-mul-perform-pair Inv-loop μ-loop
+first c = let w = c .before .loop .inv .0 in search needs
+
+one-on : tie.Need-add-perform-pair Inv-loop μ-loop
+one-on c = let w = c .before .before .loop .inv .0 in let t = c .before .loop-test .taken in search needs
+
+second : tie.Need-mul-perform-pair-2 Inv-loop μ-loop
+second c = let w = c .before .before .loop .inv .0 in let t = c .before .loop-test .taken in search needs
+
+again : tie.Need-loop-again Inv-loop μ-loop
+again c =
+    let at = c .before .before .before .before .before .before .before .before .before .before .before .before .before .before .loop in
+    let w = at .inv .0 in
+    let t = c .before .before .before .before .before .before .before .before .before .before .before .before .before .loop-test .taken in
+    let done = c .before .before .before .before .before .before .before .perform-pair in (
+      walked-more _ _ _ _ _ w _ (omega arith) (done .ensures),
+      done .kept .1 .1 .1 .0 ∙ at .inv .1,
+      done .kept .1 .1 .1 .1 .1 .0 ∙ at .inv .2,
+      done .kept .1 .1 .1 .1 .1 .1 .0 ∙ at .inv .3,
+    )
+
+pub walk-spec : {M : Type 1} → statement M
+walk-spec =
+    tie.close
+    (tie.spec
+    Inv-loop
+    μ-loop
+    (λ c. (walked-start _ _, refl, refl, refl))
+    (λ c. let w = c .loop .inv .0 in omega arith)
+    first
+    (λ c. let w = c .before .before .loop .inv .0 in let t = c .before .loop-test .taken in omega arith)
+    one-on
+    second
+    (λ c. let w = c .before .before .before .loop .inv .0 in let t = c .before .before .loop-test .taken in omega arith)
+    (λ c κs. search needs)
+    (λ c. first (c .before .before .before .before .before .before .before .before .before .before .before .before .before))
+    (λ c. let w = c .before .before .before .before .before .before .before .before .before .before .before .before .before .before .loop .inv .0 in let t = c .before .before .before .before .before .before .before .before .before .before .before .before .before .loop-test .taken in omega arith)
+    (λ c. one-on (c .before .before .before .before .before .before .before .before .before .before .before .before))
+    (λ c. second (c .before .before .before .before .before .before .before .before .before .before .before .before))
+    (λ c. let w = c .before .before .before .before .before .before .before .before .before .before .before .before .before .before .loop .inv .0 in let t = c .before .before .before .before .before .before .before .before .before .before .before .before .before .loop-test .taken in rw length-set (omega arith))
+    (λ c. let k = second (c .before .before .before .before .before .before .before .before .before .before .before .before) in search needs)
+    (λ c. let w = c .before .before .before .before .before .before .before .before .before .before .before .before .before .before .loop .inv .0 in let t = c .before .before .before .before .before .before .before .before .before .before .before .before .before .loop-test .taken in rw (length-set, length-set) (omega arith))
+    again
+    (λ c. c .before .loop .inv .0 .same-length)
+    (λ c. c .before .loop .inv .1)
+    (λ c. c .before .loop .inv .2)
+    (λ c. c .before .loop .inv .3)
+    (λ c. walked-end _ _ _ _ _ (c .before .loop .inv .0) (c .loop-test .left)))

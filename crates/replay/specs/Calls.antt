@@ -1,0 +1,101 @@
+-- One history: every public call, with the memories that it is lent, and what it answers and leaves.
+use Prim.Native.Nat.{ℕ}
+use mathlib.Core.Bool.{cond}
+use mathlib.Core.List.{List, [], _∷_}
+use mathlib.Core.Option.{Option, none, some}
+use Rattle.ring.specs.Append.{appendOf}
+use Rattle.adapter.specs.declared.Device.{Device}
+use Rattle.adapter.specs.Answers.{Creation, madeOf}
+use Rattle.adapter.specs.Registers.{readOf, written}
+use Rattle.adapter.specs.Run.{runOf}
+use Rattle.adapter.specs.Picture.{pictureOf}
+use Rattle.adapter.specs.Offscreen.{offscreenOf}
+use Rattle.adapter.specs.Fence.{fenceOf, fencePassed}
+
+-- "Calls lend 32-bit words: the ring memory (M/4 words), the framebuffer (P), the screen (P), the cursor image (4,096), and for a finished picture an output (P)."
+pub record Memories : Type 0 where
+  pub ring : List ℕ
+  pub framebuffer : List ℕ
+  pub screen : List ℕ
+  pub cursor : List ℕ
+  pub output : List ℕ
+
+pub record World : Type 0 where
+  pub device : Device
+  pub lent : Memories
+
+-- Every public call, and what the guest and the host do between calls: any memories, of any lengths and contents, are lent from then on.
+pub data Call : Type 0 where
+  make : ℕ → ℕ → Call
+  write : ℕ → ℕ → Call
+  read : ℕ → Call
+  run : ℕ → Call
+  append : ℕ → Call
+  picture offscreen fence : Call
+  passed : ℕ → Call
+  lend : Memories → Call
+
+-- What a call answers: its number, and its values, if any: what was read; a run's count; the edges of a rectangle; a fence, or whether it has passed.
+pub record Outcome : Type 0 where
+  pub answer : ℕ
+  pub values : List ℕ
+  pub world : World
+
+abbrev pub withRing : Memories → List ℕ → Memories
+withRing m ring = record { ring = ring; framebuffer = m .framebuffer; screen = m .screen; cursor = m .cursor; output = m .output }
+
+abbrev pub withOutput : Memories → List ℕ → Memories
+withOutput m output = record { ring = m .ring; framebuffer = m .framebuffer; screen = m .screen; cursor = m .cursor; output = output }
+
+-- a device made anew, or "making yields no device" and the old one stays
+abbrev pub given : Device → Option Device → Device
+given d none = d
+given d (some made) = made
+
+abbrev pub created : World → Creation → Outcome
+created w c = record { answer = c .answer; values = []; world = record { device = given (w .device) (c .device); lent = w .lent } }
+
+-- Each call by the definition that its contract cites.
+unfoldable pub perform : Call → World → Outcome
+perform (make memory pixels) w = created w (madeOf memory pixels)
+perform (write index value) w =
+    let o = written (w .device) (w .lent .ring) index value in
+    record { answer = o .answer; values = []; world = record { device = o .device; lent = w .lent } }
+perform (read index) w = let r = readOf (w .device) index in record { answer = r .answer; values = r .value ∷ []; world = w }
+perform (run budget) w =
+    let o = runOf (w .device) (w .lent .ring) (w .lent .framebuffer) (w .lent .screen) (w .lent .cursor) budget in
+    record {
+      answer = o .answer;
+      values = o .count ∷ [];
+      world = record {
+        device = o .device;
+        lent = record { ring = o .ring; framebuffer = w .lent .framebuffer; screen = o .screen; cursor = o .cursor; output = w .lent .output };
+      };
+    }
+perform (append word) w =
+    let o = appendOf (w .lent .ring) word in
+    record {
+      answer = o .answer;
+      values = [];
+      world = record { device = w .device; lent = withRing (w .lent) (o .ring) };
+    }
+perform picture w =
+    let o = pictureOf (w .device) (w .lent .screen) (w .lent .cursor) (w .lent .output) in
+    record { answer = o .answer; values = []; world = record { device = w .device; lent = withOutput (w .lent) (o .output) } }
+perform offscreen w =
+    let e = offscreenOf (w .device) in record { answer = 0; values = e .left ∷ e .top ∷ e .right ∷ e .bottom ∷ []; world = w }
+perform fence w = record { answer = 0; values = fenceOf (w .device) ∷ []; world = w }
+perform (passed number) w = record { answer = 0; values = cond (fencePassed (fenceOf (w .device)) number) 1 0 ∷ []; world = w }
+perform (lend m) w = record { answer = 0; values = []; world = record { device = w .device; lent = m } }
+
+-- What calls in a row answer and leave, each on what the last one left.
+pub record History : Type 0 where
+  pub outcomes : List Outcome
+  pub world : World
+
+unfoldable pub performAll : List Call → World → History
+performAll [] w = record { outcomes = []; world = w }
+performAll (c ∷ cs) w =
+    let o = perform c w in
+    let h = performAll cs (o .world) in
+    record { outcomes = o ∷ h .outcomes; world = h .world }

@@ -1,0 +1,98 @@
+-- Demand 3 on a device and its memories: document 01, "Straight execution".
+use Prim.Native.Nat.{ℕ, zero, suc, _-_, _*_, _/_}
+use mathlib.Core.Path.{_≡_}
+use mathlib.Core.Bool.{Bool, false, _&&_}
+use mathlib.Core.List.{List, [], _∷_, map}
+use mathlib.Core.Option.{Option, none, some}
+use lib.Dec.{eqb, leb}
+use lib.ListN.{length}
+use Rattle.order.specs.declared.Cause.{Cause}
+use Rattle.order.specs.Straight.{Turn, Line}
+use Rattle.order.specs.Table.{turnOf}
+use Rattle.order.specs.Claim.{Op, Event, replyNumber, counted, fed, Demand3}
+use Rattle.order.specs.Claim as C
+use Rattle.ring.specs.declared.Ring.{Ring}
+use Rattle.ring.specs.Acceptance.{minOf, maxOf, nextOf, stopOf, usable}
+use Rattle.ring.specs.Waiting.{after, waiting, carried}
+use Rattle.effect.specs.Effects.{Machine}
+use Rattle.run.specs.Run.{Scene, scene, table}
+use Rattle.adapter.specs.declared.Condition.{Condition}
+use Rattle.adapter.specs.declared.Condition.the-variants.{Idle, Running, Faulted}
+use Rattle.adapter.specs.Device.{pixelsOf, widthOf, heightOf, enabledOf, configuredOf, conditionOf, made}
+use Rattle.adapter.specs.Run.{lentGood, machineOf}
+use Rattle.replay.specs.Calls.{World, Call, append, run, Outcome, History}
+
+-- "Its ring was last accepted with NEXT_CMD = STOP and since then nothing was written to it and no run made, refusals aside." Of that the state shows: no
+-- fault stands, what is remembered is what the ring words say, and NEXT_CMD = STOP.
+unfoldable pub ringAtStart : List ℕ → Condition → Bool
+ringAtStart ring Idle = false
+ringAtStart ring (Faulted c) = false
+ringAtStart ring (Running g) =
+    usable ring
+    && (eqb (minOf ring / 4) (g .min) && (eqb (maxOf ring / 4) (g .max) && (eqb (stopOf ring / 4) (g .stop) && eqb (nextOf ring) (stopOf ring))))
+
+-- "Demand 3 starts from a made device, enabled and configured, whose mode fits. .. every lent length is right."
+unfoldable pub isStart : World → Bool
+isStart w =
+    made (w .device)
+    && (lentGood (w .device) (length (w .lent .ring)) (length (w .lent .framebuffer)) (length (w .lent .screen)) (length (w .lent .cursor))
+    && (configuredOf (w .device)
+    && (enabledOf (w .device)
+    && (leb (widthOf (w .device) * heightOf (w .device)) (pixelsOf (w .device)) && ringAtStart (w .lent .ring) (conditionOf (w .device))))))
+
+-- "uses its framebuffer, mode, MIN and MAX": document 01's table and turn, as of the start.
+abbrev pub sceneOf : World → Scene
+sceneOf w = scene (widthOf (w .device)) (heightOf (w .device)) (w .lent .framebuffer)
+
+abbrev pub turnIn : World → Ring → Machine → List ℕ → Turn Machine
+turnIn w g = turnOf (carried (g .min) (g .max)) (table (sceneOf w))
+
+-- "The words left are those waiting": from ring word 3 up to ring word 2.
+abbrev pub wordsIn : Ring → World → List ℕ
+wordsIn g w = waiting (w .lent .ring) (g .min) (g .max) (stopOf (w .lent .ring) / 4) (nextOf (w .lent .ring) / 4)
+
+-- "Its state: the words left, screen, cursor image, defined cursor (none, or id, hotspot and size), fence."
+abbrev pub machineIn : World → Machine
+machineIn w = machineOf (w .device) (w .lent .screen) (w .lent .cursor)
+
+abbrev pub lineIn : Ring → World → Line Machine
+lineIn g w = record { words = wordsIn g w; machine = machineIn w }
+
+abbrev pub standsIn : Condition → Option Cause
+standsIn Idle = none
+standsIn (Running g) = none
+standsIn (Faulted c) = some c
+
+-- n words on, wrapping as often as it takes
+unfoldable pub wordsOn : ℕ → ℕ → ℕ → ℕ → ℕ
+wordsOn lo hi p zero = p
+wordsOn lo hi p (suc n) = wordsOn lo hi (after lo hi p) n
+
+-- Demand 3, whole. From the start w₀ with the remembered ring g, the operations and answers es have led to w.
+pub record Demand (g : Ring) (w₀ : World) (es : List Event) (w : World) : Type 0 where
+  -- the claim on straight execution, the words left, the machine, the fault and every answer
+  pub claim : Demand3 (carried (g .min) (g .max)) (turnIn w₀ g) (machineIn w₀) es (lineIn g w) (standsIn (conditionOf (w .device)))
+  -- "ring word 3 has moved on by 4 for each word dropped, wrapping"
+  pub word-3 : stopOf (w .lent .ring) ≡ 4 * wordsOn (g .min) (g .max) (g .stop) (length (fed es) - length (wordsIn g w))
+
+-- "any list of appends, one word each by the published rule, and runs of any budget", as calls
+abbrev pub callOf : Op → Call
+callOf (C.append x) = append x
+callOf (C.run b) = run b
+
+-- what an operation with its answer looks like from outside: its number, and a run's count
+abbrev pub numbersOf : Event → List ℕ
+numbersOf e = replyNumber (e .reply) ∷ countOf (e .op) (counted (e .reply))
+  where
+    countOf : Op → ℕ → List ℕ
+    countOf (C.append x) c = []
+    countOf (C.run b) c = c ∷ []
+
+-- What a list of operations led to: the operations os, from the start w₀ with the remembered ring g, gave the answers and left the world of h.
+pub record Shown (g : Ring) (w₀ : World) (os : List Op) (h : History) : Type 0 where
+  -- the operations with their answers
+  pub events : List Event
+  pub asked : map (λ (e : Event). e .op) events ≡ os
+  -- the numbers and counts that the calls answered
+  pub answered : map (λ (o : Outcome). o .answer ∷ o .values) (h .outcomes) ≡ map numbersOf events
+  pub demand : Demand g w₀ events (h .world)

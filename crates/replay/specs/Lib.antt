@@ -1,0 +1,4 @@
+pub mod Calls
+pub mod Harm
+pub mod Demand
+pub mod Replay
