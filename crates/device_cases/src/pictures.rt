@@ -1,9 +1,4 @@
 // Pictures: the cursor plane, cursors of all shapes at all edges, lent lengths.
-use crate::draw::checksum;
-use crate::draw::draw;
-use crate::draw::next;
-use crate::draw::prepare;
-use crate::draw::prepare_image;
 use crate::print::field;
 use crate::print::show_shape;
 use crate::print::show_words;
@@ -13,10 +8,45 @@ use crate::registers::put;
 use adapter::Device;
 use adapter::Making;
 use cursor::Shape;
+use drawn::checksum;
+use drawn::draw;
+use drawn::next;
+use drawn::prepare;
 ghost use Prim.Native.Nat.{_≤_};
 ghost use lib.ListN.{length};
 
 const MOST: u32 = 4294967295;
+
+// ---- the cursor image
+
+fn alpha(k: usize) -> u32
+    ensures { λ r. ⌜ r ≤ 255 ⌝ }
+{
+    match k % 7 {
+        0 => 0,
+        1 => 1,
+        2 => 127,
+        3 => 128,
+        4 => 254,
+        5 => 255,
+        _ => 64,
+    }
+}
+
+// Cursor pixel k: its top byte goes round, its colours are drawn.
+fn cursor_pixel(k: usize, state: u32) -> u32 {
+    alpha(k) * 16777216 + state % 16777216
+}
+
+fn prepare_image(image: &mut [u32]) {
+    let mut state = 2;
+    let mut k = 0;
+    while k < image.len() {
+        state = next(state);
+        image[k] = cursor_pixel(k, state);
+        k += 1;
+    }
+}
 
 // ---- pictures
 

@@ -2,8 +2,8 @@ use Prim.Native.Nat.{_≤_, _-_}
 use mathlib.Core.Path.{_≡_}
 use lib.ListN.{length}
 use borrow.Author.Needs.{needs}
-use Rattle.device_cases.proofs.draw.prepare_image.Statement.{statement}
-use Rattle.device_cases.proofs.draw.prepare_image.Tie as tie
+use Rattle.device_cases.proofs.pictures.prepare_image.Statement.{statement}
+use Rattle.device_cases.proofs.pictures.prepare_image.Tie as tie
 
 abbrev Inv-loop : tie.InvT-loop
 Inv-loop image₀ state₀ k₀ image state k = (length image ≡ length image₀) × (k ≤ length image₀)
