@@ -35,6 +35,10 @@ class Cursor(NamedTuple):
     w: int
     h: int
 
+    def good(self):
+        """w and h 1 to 64, hotx < w, hoty < h."""
+        return 1 <= self.w <= 64 and 1 <= self.h <= 64 and self.hotx < self.w and self.hoty < self.h
+
 
 class Remembered(NamedTuple):
     """What CURSOR_ON 1 remembered."""
@@ -135,7 +139,7 @@ class Device:
 
     def define_cursor(self, cursor):
         """A cursor of a bad shape changes nothing."""
-        if 1 <= cursor.w <= 64 and 1 <= cursor.h <= 64 and cursor.hotx < cursor.w and cursor.hoty < cursor.h:
+        if cursor.good():
             self.cursor = cursor
 
     def offscreen(self):
