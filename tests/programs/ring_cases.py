@@ -198,7 +198,7 @@ def refusal_case(device, mask):
     if mask % 2:
         # a fault: NEXT_CMD is unusable for a moment
         ring[2] = 18
-        yield run_line(device, cut(ring, framebuffer, screen, image, (2564, 1024, 1024, 4096)), 1)
+        yield run_line(device, cut(ring, framebuffer, screen, image, LENGTHS[-1]), 9)
         ring[2] = 16
     for bit, index, value in (2, 2, 64), (4, 1, 0), (8, 20, 0):
         if mask & bit:
