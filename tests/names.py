@@ -37,8 +37,12 @@ def declared_in_antt(file):
     """Signatures, records and data types at the top level, or at the margin of a 'module _' section, which may stand in another."""
     names = set()
     margins = [0]  # of the sections that a line stands in; None: the section's first line tells
+    header = False  # within the lines of a section's header
     for line in file.read_text().splitlines():
         if not line.strip() or line.lstrip().startswith("--"):
+            continue
+        if header:
+            header = not line.rstrip().endswith("where")
             continue
         indent = len(line) - len(line.lstrip())
         if margins[-1] is None:
@@ -50,6 +54,7 @@ def declared_in_antt(file):
         words = re.sub(r"^(?:(?:pub|abbrev|unfoldable) )+", "", line.strip())
         if words.startswith("module _"):
             margins.append(None)
+            header = not line.rstrip().endswith("where")
             continue
         declared = re.match(r"(?:record|data) (\S+)", words) or re.match(r"(\S+) :(?: |$)", words)
         if declared:
