@@ -1,0 +1,12 @@
+-- `console_answers::put_run` meets its contract.
+-- Assumes nothing.
+use borrow.Author.Needs.{needs}
+use Rattle.console_answers.proofs.Putting.{put-then}
+use Rattle.console_answers.proofs.put_run.Statement.{statement}
+use Rattle.console_answers.proofs.put_run.Tie as tie
+
+returns : tie.Need-returns
+returns c = put-then (c .before .before .before .before .before .before .before .before .before .before .put .ensures) (put-then (c .before .before .before .before .before .before .put2 .ensures) (c .before .before .put3 .ensures))
+
+pub put-run-spec : {M : Type 1} → statement M
+put-run-spec = tie.close (tie.spec (λ c κs. search needs) (λ c κs. search needs) (λ c κs. search needs) (λ c. search needs) returns)

@@ -1,0 +1,18 @@
+-- Text put into a buffer behind the bytes that are there.
+use Prim.Native.Nat.{ℕ, _+_}
+use mathlib.Core.Path.{_≡_}
+use mathlib.Core.Bool.{cond}
+use mathlib.Core.List.{List, [], _++_}
+use lib.Dec.{leb}
+use lib.ListN.{length, take}
+use Rattle.console_answers.specs.declared.Answer.{Answer}
+use Rattle.console_answers.specs.Text.{textOf}
+
+-- Of the buffer the first at bytes were there before; after it the first end, which have the text behind them.
+pub record Put (before : List ℕ) (at : ℕ) (text : List ℕ) (after : List ℕ) (end : ℕ) : Type 0 where
+  pub bytes : take end after ≡ take at before ++ text
+  pub ends : end ≡ at + length text
+
+-- An answer has at most 26 bytes. Where the buffer has no room for so many, nothing is put.
+unfoldable pub shown : ℕ → ℕ → Answer → List ℕ
+shown room at answer = cond (leb (at + 26) room) (textOf answer) []
