@@ -1,0 +1,4 @@
+pub mod Console
+pub mod Parts
+pub mod Output
+pub mod Session

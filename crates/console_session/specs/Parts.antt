@@ -1,0 +1,20 @@
+-- What the inner functions answer.
+use Prim.Native.Nat.{ℕ}
+use mathlib.Core.Path.{_≡_}
+use mathlib.Core.Bool.{cond}
+use mathlib.Core.List.{List}
+use lib.Dec.{eqb}
+use Rattle.ring.specs.Append.{Appended}
+use Rattle.console_answers.specs.declared.Answer.{Answer}
+use Rattle.console_answers.specs.declared.Answer.the-variants.{Full, Nothing}
+use Rattle.console_session.specs.declared.Performed.{Performed as Done}
+use Rattle.console_session.specs.Console.{Performed, consoleOf}
+
+abbrev pub performedOf : Done → List ℕ → List ℕ → List ℕ → List ℕ → Performed
+performedOf r ring framebuffer screen cursor =
+    record { console = consoleOf (r .device) ring framebuffer screen cursor; answer = r .answer }
+
+-- The answer to an append, and the ring memory that it left.
+pub record appendAnswer (answer : Answer) (ring : List ℕ) (a : Appended) : Type 0 where
+  pub says : answer ≡ cond (eqb (a .answer) 0) Nothing Full
+  pub leaves : ring ≡ a .ring

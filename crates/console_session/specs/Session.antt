@@ -1,0 +1,59 @@
+-- The console fed byte by byte, in constant memory: of a line it keeps the first 32 bytes.
+use Prim.Native.Nat.{ℕ, _+_, _*_}
+use mathlib.Core.Bool.{Bool, cond, _&&_}
+use mathlib.Core.List.{List, [], _∷_, _++_}
+use lib.Dec.{eqb, ltb, leb}
+use lib.ListN.{length, take}
+use Rattle.console_lines.specs.Lines.{requestOf}
+use Rattle.console_answers.specs.Text.{textOf}
+use Rattle.adapter.specs.declared.Device.{Device}
+use Rattle.console_session.specs.declared.Session.{Session}
+use Rattle.console_session.specs.Console.{Console, Performed, consoleOf, performed, start}
+
+-- The console, the line so far, and the text printed.
+pub record State : Type 0 where
+  pub console : Console
+  pub held : List ℕ
+  pub printed : List ℕ
+
+unfoldable pub begun : State
+begun = record { console = start; held = []; printed = [] }
+
+-- The line's end: its request is performed and answered, and a new line begins.
+abbrev pub told : List ℕ → Performed → State
+told printed p = record { console = p .console; held = []; printed = printed ++ textOf (p .answer) }
+
+unfoldable pub answered : State → State
+answered s = told (s .printed) (performed (s .console) (requestOf (s .held)))
+
+-- One byte more of a line: the first 32 are kept. A line that long is bad.
+unfoldable pub kept : List ℕ → ℕ → List ℕ
+kept held b = cond (ltb (length held) 32) (held ++ (b ∷ [])) held
+
+unfoldable pub fed : State → ℕ → State
+fed s b = cond (eqb b 10) (answered s) (record { console = s .console; held = kept (s .held) b; printed = s .printed })
+
+unfoldable pub fedAll : State → List ℕ → State
+fedAll s [] = s
+fedAll s (b ∷ bs) = fedAll (fed s b) bs
+
+-- The input's end: a last line without newline is a line.
+unfoldable pub ended : State → State
+ended s = cond (leb 1 (length (s .held))) (answered s) s
+
+-- What was printed is written out.
+abbrev pub flushed : State → State
+flushed s = record { console = s .console; held = s .held; printed = [] }
+
+-- ---- what the code keeps: a session, the lent memories, a line of 32 bytes and a buffer for the text
+
+abbrev pub stateOf : Session → List ℕ → List ℕ → List ℕ → List ℕ → List ℕ → List ℕ → State
+stateOf s line ring framebuffer screen cursor out = record {
+  console = consoleOf (s .device) ring framebuffer screen cursor;
+  held = take (s .held) line;
+  printed = take (s .printed) out;
+}
+
+-- The line has 32 bytes, and out has room for the answers to n lines, each of at most 26 bytes.
+unfoldable pub fits : Session → ℕ → ℕ → ℕ → Bool
+fits s n line out = eqb line 32 && (leb (s .held) 32 && leb (s .printed + 26 * n) out)
