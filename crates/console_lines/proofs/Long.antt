@@ -76,8 +76,8 @@ unfolding withTwo
 long-two word a b h =
     by-test (leb (length a) 10)
     (λ t. by-test (leb (length b) 10)
-      (λ s. let k : length a ≤ 10 = leb-true _ _ t in let m : length b ≤ 10 = leb-true _ _ s in two-none word (numberOf a) (numberOf b) (omega arith))
-      (λ s. rw (long-number b (leb-false _ _ s)) (two-second word (numberOf a))))
+    (λ s. let k : length a ≤ 10 = leb-true _ _ t in let m : length b ≤ 10 = leb-true _ _ s in two-none word (numberOf a) (numberOf b) (omega arith))
+    (λ s. rw (long-number b (leb-false _ _ s)) (two-second word (numberOf a))))
     (λ t. rw (long-number a (leb-false _ _ t)))
 
 long-fields : (fs : List (List ℕ)) → 24 < spread fs → requestIn fs ≡ Bad
@@ -97,4 +97,4 @@ pub first-bytes : (l : List ℕ) → requestOf (take 32 l) ≡ requestOf l
 first-bytes l =
     by-test (leb (length l) 32) (λ t. rw (take-all 32 l (leb-true _ _ t)))
     (λ t. let k : 32 < length l = leb-false _ _ t in
-      long-line (take 32 l) (omega (arith, length-take 32 l)) ∙ sym (long-line l (omega arith)))
+    long-line (take 32 l) (omega (arith, length-take 32 l)) ∙ sym (long-line l (omega arith)))

@@ -1,5 +1,5 @@
 -- What the inner functions answer.
-use Prim.Native.Nat.{ℕ}
+use Prim.Native.Nat.{ℕ, _+_, _*_, _≤_}
 use mathlib.Core.Path.{_≡_}
 use mathlib.Core.Bool.{cond}
 use mathlib.Core.List.{List}
@@ -8,6 +8,7 @@ use Rattle.ring.specs.Append.{Appended}
 use Rattle.console_answers.specs.declared.Answer.{Answer}
 use Rattle.console_answers.specs.declared.Answer.the-variants.{Full, Nothing}
 use Rattle.console_session.specs.declared.Performed.{Performed as Done}
+use Rattle.console_session.specs.declared.Session.{Session}
 use Rattle.console_session.specs.Console.{Performed, consoleOf}
 
 abbrev pub performedOf : Done → List ℕ → List ℕ → List ℕ → List ℕ → Performed
@@ -18,3 +19,9 @@ performedOf r ring framebuffer screen cursor =
 pub record appendAnswer (answer : Answer) (ring : List ℕ) (a : Appended) : Type 0 where
   pub says : answer ≡ cond (eqb (a .answer) 0) Nothing Full
   pub leaves : ring ≡ a .ring
+
+-- The line has 32 bytes, the held ones are among them, and out has room for n answers more.
+pub record Within (s : Session) (n line out : ℕ) : Type 0 where
+  pub whole : line ≡ 32
+  pub held : s .held ≤ 32
+  pub room : s .printed + 26 * n ≤ out

@@ -6,7 +6,8 @@ ghost use lib.ListN.{length, getD, set, take};
 ghost use Rattle.ring.specs.Append.{appendOf};
 ghost use Rattle.adapter.specs.Registers.{readOf};
 ghost use Rattle.console_session.specs.Console.{performed, consoleOf};
-ghost use Rattle.console_session.specs.Parts.{performedOf, appendAnswer};
+ghost use Rattle.console_session.specs.Session.{stateOf, answered, kept, fed};
+ghost use Rattle.console_session.specs.Parts.{performedOf, appendAnswer, Within};
 use adapter::Device;
 use adapter::Value;
 use console_answers::Answer;
@@ -99,7 +100,10 @@ pub fn perform(
         }
         Request::Pixel(place, pixel) => {
             set_pixel(framebuffer, place, pixel);
-            return Performed { answer: Answer::Nothing, device: d };
+            return Performed {
+                answer: Answer::Nothing,
+                device: d,
+            };
         }
         Request::Run(budget) => {
             let r = adapter::run(d, ring, framebuffer, screen, cursor, budget);
@@ -112,6 +116,76 @@ pub fn perform(
             let answer = Answer::Shown(place, pixel_at(screen, place));
             return Performed { answer, device: d };
         }
-        Request::Bad => return Performed { answer: Answer::Bad, device: d },
+        Request::Bad => return Performed {
+            answer: Answer::Bad,
+            device: d,
+        },
     }
+}
+
+// ---- the session, byte by byte
+
+// The held line's request is performed and answered.
+fn answer_line(
+    s: Session,
+    line: &[u8],
+    ring: &mut [u32],
+    framebuffer: &mut [u32],
+    screen: &mut [u32],
+    cursor: &mut [u32],
+    out: &mut [u8],
+) -> Session
+    requires { ⌜ Within s 1 (length (now line)) (length (now out)) ⌝ }
+    ensures { λ r. ⌜ stateOf r (now (line .entry)) (now (ring .exit)) (now (framebuffer .exit)) (now (screen .exit)) (now (cursor .exit)) (now (out .exit)) ≡ answered (stateOf s (now (line .entry)) (now (ring .entry)) (now (framebuffer .entry)) (now (screen .entry)) (now (cursor .entry)) (now (out .entry))) ⌝ }
+    ensures { λ r. ⌜ Within r 0 (length (now (line .entry))) (length (now (out .entry))) ⌝ }
+    ensures { λ r. ⌜ r .printed ≤ s .printed + 26 ⌝ }
+{
+    let held = s.held;
+    let request = console_lines::request_of(&line[0..held]);
+    let d = s.device;
+    let p = perform(request, d, ring, framebuffer, screen, cursor);
+    let answer = p.answer;
+    let printed = console_answers::print(answer, out, s.printed);
+    let device = p.device;
+    Session {
+        device,
+        held: 0,
+        printed,
+    }
+}
+
+// One byte more of the line, of which 32 are kept: how many are held then.
+fn keep(line: &mut [u8], held: usize, b: u8) -> usize
+    requires { ⌜ length (now line) ≡ 32 ⌝ }
+    requires { ⌜ held ≤ 32 ⌝ }
+    ensures { λ r. ⌜ take r (now (line .exit)) ≡ kept (take held (now (line .entry))) b ⌝ }
+    ensures { λ r. ⌜ r ≤ 32 ⌝ }
+{
+    if held < 32 {
+        line[held] = b;
+        return held + 1;
+    }
+    held
+}
+
+fn feed_byte(
+    s: Session,
+    b: u8,
+    line: &mut [u8],
+    ring: &mut [u32],
+    framebuffer: &mut [u32],
+    screen: &mut [u32],
+    cursor: &mut [u32],
+    out: &mut [u8],
+) -> Session
+    requires { ⌜ Within s 1 (length (now line)) (length (now out)) ⌝ }
+    ensures { λ r. ⌜ stateOf r (now (line .exit)) (now (ring .exit)) (now (framebuffer .exit)) (now (screen .exit)) (now (cursor .exit)) (now (out .exit)) ≡ fed (stateOf s (now (line .entry)) (now (ring .entry)) (now (framebuffer .entry)) (now (screen .entry)) (now (cursor .entry)) (now (out .entry))) b ⌝ }
+    ensures { λ r. ⌜ Within r 0 (length (now (line .entry))) (length (now (out .entry))) ⌝ }
+    ensures { λ r. ⌜ r .printed ≤ s .printed + 26 ⌝ }
+{
+    if b == b'\n' {
+        return answer_line(s, line, ring, framebuffer, screen, cursor, out);
+    }
+    let held = keep(line, s.held, b);
+    Session { held, ..s }
 }

@@ -34,16 +34,16 @@ put-number-returns : (t : ℕ) → put-number-lts.Need-returns (put-reads.Asked,
 put-number-returns t c = rw (decimal-small (c .before .before .before .before .before .before .args .n) (c .before .before .before .before .if1 .taken)) (c .before .before .put .ensures)
 
 put-number-put-number-requires : (t : ℕ) → put-number-lts.Need-put-number-requires (put-reads.Asked, put-reads.Learnt, put-number-below t, put-number.Post) (put-number-at t) put-number.Post
-put-number-put-number-requires t c κs = 
+put-number-put-number-requires t c κs =
     let n = c .before .before .before .args .n in
     (omega (arith, c .before .before .before .pre .0, c .before .if1 .left), omega (arith, c .before .before .before .pre .1, large-length n (omega arith) (c .before .if1 .left)))
 
 put-number-put-requires-2 : (t : ℕ) → put-number-lts.Need-put-requires-2 (put-reads.Asked, put-reads.Learnt, put-number-below t, put-number.Post) (put-number-at t) put-number.Post
-put-number-put-requires-2 t c κs = 
+put-number-put-requires-2 t c κs =
     omega (arith, c .before .before .before .before .before .before .before .pre .1, c .before .before .before .put-number .ensures .ends, c .before .before .before .put-number .kept .0, large-length (c .before .before .before .before .before .before .before .args .n) (omega arith) (c .before .before .before .before .before .if1 .left))
 
 put-number-returns-2 : (t : ℕ) → put-number-lts.Need-returns-2 (put-reads.Asked, put-reads.Learnt, put-number-below t, put-number.Post) (put-number-at t) put-number.Post
-put-number-returns-2 t c = 
+put-number-returns-2 t c =
     rw (decimal-large (c .before .before .before .before .before .before .before .before .before .before .args .n) (omega arith) (c .before .before .before .before .before .before .before .before .if1 .left)) (put-then (c .before .before .before .before .before .before .put-number .ensures) (c .before .before .put2 .ensures))
 
 pub +put-number-spec : {M : Type 1} → statement M

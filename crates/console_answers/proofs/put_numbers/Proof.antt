@@ -15,14 +15,35 @@ tab c κs = omega (arith, c .before .before .before .before .before .before .bef
 
 second : tie.Need-put-number-requires-2
 second c κs =
-    omega (arith, c .before .before .before .before .before .before .before .before .before .before .before .before .before .before .pre, c .before .before .before .before .before .before .before .before .before .before .before .put .ensures .ends, c .before .before .before .before .before .before .before .before .before .before .before .put .kept .0, c .before .before .before .before .before .before .before .put-number .ensures .ends, c .before .before .before .before .before .before .before .put-number .kept .0,
-      c .before .before .before .put2 .ensures .ends, c .before .before .before .put2 .kept .0, decimal-short (c .before .before .before .before .before .before .before .before .before .before .before .before .before .before .args .first), decimal-short (c .before .before .before .before .before .before .before .before .before .before .before .before .before .before .args .second))
+    omega (
+      arith,
+      c .before .before .before .before .before .before .before .before .before .before .before .before .before .before .pre,
+      c .before .before .before .before .before .before .before .before .before .before .before .put .ensures .ends,
+      c .before .before .before .before .before .before .before .before .before .before .before .put .kept .0,
+      c .before .before .before .before .before .before .before .put-number .ensures .ends,
+      c .before .before .before .before .before .before .before .put-number .kept .0,
+      c .before .before .before .put2 .ensures .ends,
+      c .before .before .before .put2 .kept .0,
+      decimal-short (c .before .before .before .before .before .before .before .before .before .before .before .before .before .before .args .first),
+      decimal-short (c .before .before .before .before .before .before .before .before .before .before .before .before .before .before .args .second),
+    )
 
 newline : tie.Need-put-requires-3
 newline c κs =
-    omega (arith, c .before .before .before .before .before .before .before .before .before .before .before .before .before .before .before .before .before .before .pre, c .before .before .before .before .before .before .before .before .before .before .before .before .before .before .before .put .ensures .ends, c .before .before .before .before .before .before .before .before .before .before .before .before .before .before .before .put .kept .0, c .before .before .before .before .before .before .before .before .before .before .before .put-number .ensures .ends, c .before .before .before .before .before .before .before .before .before .before .before .put-number .kept .0,
-      c .before .before .before .before .before .before .before .put2 .ensures .ends, c .before .before .before .before .before .before .before .put2 .kept .0, c .before .before .before .put-number2 .ensures .ends, c .before .before .before .put-number2 .kept .0,
-      decimal-short (c .before .before .before .before .before .before .before .before .before .before .before .before .before .before .before .before .before .before .args .first), decimal-short (c .before .before .before .before .before .before .before .before .before .before .before .before .before .before .before .before .before .before .args .second))
+    omega (
+      arith,
+      c .before .before .before .before .before .before .before .before .before .before .before .before .before .before .before .before .before .before .pre,
+      c .before .before .before .before .before .before .before .before .before .before .before .before .before .before .before .put .ensures .ends,
+      c .before .before .before .before .before .before .before .before .before .before .before .before .before .before .before .put .kept .0,
+      c .before .before .before .before .before .before .before .before .before .before .before .put-number .ensures .ends,
+      c .before .before .before .before .before .before .before .before .before .before .before .put-number .kept .0,
+      c .before .before .before .before .before .before .before .put2 .ensures .ends,
+      c .before .before .before .before .before .before .before .put2 .kept .0,
+      c .before .before .before .put-number2 .ensures .ends,
+      c .before .before .before .put-number2 .kept .0,
+      decimal-short (c .before .before .before .before .before .before .before .before .before .before .before .before .before .before .before .before .before .before .args .first),
+      decimal-short (c .before .before .before .before .before .before .before .before .before .before .before .before .before .before .before .before .before .before .args .second),
+    )
 
 returns : tie.Need-returns
 returns c =

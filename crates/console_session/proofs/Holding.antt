@@ -1,0 +1,49 @@
+-- A line is held byte by byte, and answered.
+-- Assumes nothing.
+use mathlib.Core.Path.{_≡_, sym}
+use mathlib.Core.Bool.{Bool, true, false, cond}
+use mathlib.Core.List.{List, []}
+use Prim.Native.Nat.{ℕ, _+_, _≤_, _<_}
+use native.Mathlib.Numerals.{add-one}
+use native.Mathlib.Omega.{arith}
+use lib.Dec.{leb}
+use lib.ListN.{length, take, set}
+use lib.Seq.{length-take-le, take-suc-set}
+use borrow.Author.Tests.{lt-ltb, le-ltb, le-leb}
+use Rattle.console_lines.specs.declared.Request.{Request}
+use Rattle.console_lines.specs.Lines.{requestOf}
+use Rattle.console_answers.specs.declared.Answer.{Answer}
+use Rattle.console_answers.specs.Text.{textOf}
+use Rattle.console_answers.specs.Put.{Put, shown}
+use Rattle.console_answers.proofs.Decimal.{text-short}
+use Rattle.console_session.specs.Console.{Console, Performed, performed}
+use Rattle.console_session.specs.Session.{State, answered, kept}
+
+pub kept-more : (line : List ℕ) (held b : ℕ) → held < 32 → held < length line → take (held + 1) (set line held b) ≡ kept (take held line) b
+unfolding kept
+kept-more line held b h there =
+    let n = length-take-le held line (omega arith) in
+    let more : length (take held line) < 32 = omega arith in rw (lt-ltb _ _ more, add-one) (take-suc-set line held b there)
+
+pub kept-all : (line : List ℕ) (held b : ℕ) → 32 ≤ held → held ≤ length line → take held line ≡ kept (take held line) b
+unfolding kept
+kept-all line held b h there =
+    let n = length-take-le held line there in
+    let full : 32 ≤ length (take held line) = omega arith in rw (le-ltb _ _ full)
+
+chosen-short : (t : Bool) (a : Answer) → length (cond t (textOf a) []) ≤ 26
+chosen-short true a = text-short a
+chosen-short false a = omega arith
+
+pub shown-short : (out after : List ℕ) (room at end : ℕ) (a : Answer) → Put out at (shown room at a) after end → end ≤ at + 26
+unfolding shown
+shown-short out after room at end a put = omega (arith, put .ends, chosen-short (leb (at + 26) room) a)
+
+module _ (c : Console) (line out after : List ℕ) (held at end : ℕ) (q : Request) (p : Performed) where
+  pub line-answered : q ≡ requestOf (take held line) → p ≡ performed c q → at + 26 ≤ length out
+      → Put out at (shown (length out) at (p .answer)) after end
+      → record { console = p .console; held = []; printed = take end after }
+      ≡ answered (record { console = c; held = take held line; printed = take at out })
+  unfolding answered shown
+  line-answered e f h put =
+      let t = rw (le-leb _ _ h) at (put .bytes) in rw (← e, ← f, t)
