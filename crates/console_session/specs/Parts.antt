@@ -5,10 +5,13 @@ use mathlib.Core.Bool.{cond}
 use mathlib.Core.List.{List}
 use lib.Dec.{eqb}
 use Rattle.ring.specs.Append.{Appended}
+use Rattle.adapter.specs.declared.Device.{Device}
 use Rattle.console_answers.specs.declared.Answer.{Answer}
 use Rattle.console_answers.specs.declared.Answer.the-variants.{Full, Nothing}
 use Rattle.console_session.specs.declared.Performed.{Performed as Done}
 use Rattle.console_session.specs.declared.Session.{Session}
+use Rattle.console_session.specs.declared.Start.{Start}
+use Rattle.console_session.specs.declared.Start.the-variants.{Ready}
 use Rattle.console_session.specs.Console.{Performed, consoleOf}
 
 abbrev pub performedOf : Done → List ℕ → List ℕ → List ℕ → List ℕ → Performed
@@ -25,3 +28,11 @@ pub record Within (s : Session) (n line out : ℕ) : Type 0 where
   pub whole : line ≡ 32
   pub held : s .held ≤ 32
   pub room : s .printed + 26 * n ≤ out
+
+-- A session that begins.
+abbrev pub readyWith : Device → Start
+readyWith d = Ready (record { device = d; held = 0; printed = 0 })
+
+-- What was printed is written out.
+abbrev pub emptied : Session → Session
+emptied s = record { device = s .device; held = s .held; printed = 0 }

@@ -1,14 +1,16 @@
 // The console: requests on a device and its memories, and a session that is fed its input byte by byte.
-ghost use Prim.Native.Nat.{_+_, _≤_};
+ghost use Prim.Native.Nat.{_+_, _*_, _≤_};
 ghost use mathlib.Core.Path.{_≡_};
 ghost use mathlib.Core.Bool.{cond};
 ghost use lib.ListN.{length, getD, set, take};
 ghost use Rattle.ring.specs.Append.{appendOf};
+ghost use Rattle.adapter.specs.Device.{fresh};
 ghost use Rattle.adapter.specs.Registers.{readOf};
-ghost use Rattle.console_session.specs.Console.{performed, consoleOf};
-ghost use Rattle.console_session.specs.Session.{stateOf, answered, kept, fed};
-ghost use Rattle.console_session.specs.Parts.{performedOf, appendAnswer, Within};
+ghost use Rattle.console_session.specs.Console.{performed, consoleOf, ringStart};
+ghost use Rattle.console_session.specs.Session.{stateOf, answered, kept, fed, fedAll, ended, fits};
+ghost use Rattle.console_session.specs.Parts.{performedOf, appendAnswer, readyWith, emptied, Within};
 use adapter::Device;
+use adapter::Making;
 use adapter::Value;
 use console_answers::Answer;
 use console_lines::Request;
@@ -24,7 +26,12 @@ pub struct Performed {
 pub struct Session {
     device: Device,
     held: usize,
-    printed: usize,
+    pub printed: usize,
+}
+
+pub enum Start {
+    Ready(Session),
+    Refused,
 }
 
 // ---- one request
@@ -50,12 +57,12 @@ fn append(ring: &mut [u32], word: u32) -> Answer
 }
 
 // A place outside is left alone.
-fn set_pixel(framebuffer: &mut [u32], place: u32, pixel: u32)
-    ensures { λ _. ⌜ now (framebuffer .exit) ≡ set (now (framebuffer .entry)) place pixel ⌝ }
+fn set_word(words: &mut [u32], place: u32, word: u32)
+    ensures { λ _. ⌜ now (words .exit) ≡ set (now (words .entry)) place word ⌝ }
 {
     let at = place as usize;
-    if at < framebuffer.len() {
-        framebuffer[at] = pixel;
+    if at < words.len() {
+        words[at] = word;
     }
 }
 
@@ -99,7 +106,7 @@ pub fn perform(
             return Performed { answer, device: d };
         }
         Request::Pixel(place, pixel) => {
-            set_pixel(framebuffer, place, pixel);
+            set_word(framebuffer, place, pixel);
             return Performed {
                 answer: Answer::Nothing,
                 device: d,
@@ -188,4 +195,123 @@ fn feed_byte(
     }
     let held = keep(line, s.held, b);
     Session { held, ..s }
+}
+
+fn feed_bytes(
+    s: Session,
+    chunk: &[u8],
+    line: &mut [u8],
+    ring: &mut [u32],
+    framebuffer: &mut [u32],
+    screen: &mut [u32],
+    cursor: &mut [u32],
+    out: &mut [u8],
+) -> Session
+    requires { ⌜ Within s (length (now chunk)) (length (now line)) (length (now out)) ⌝ }
+    ensures { λ r. ⌜ stateOf r (now (line .exit)) (now (ring .exit)) (now (framebuffer .exit)) (now (screen .exit)) (now (cursor .exit)) (now (out .exit)) ≡ fedAll (stateOf s (now (line .entry)) (now (ring .entry)) (now (framebuffer .entry)) (now (screen .entry)) (now (cursor .entry)) (now (out .entry))) (now (chunk .entry)) ⌝ }
+{
+    let mut t = s;
+    let mut i = 0;
+    while i < chunk.len() {
+        t = feed_byte(t, chunk[i], line, ring, framebuffer, screen, cursor, out);
+        i += 1;
+    }
+    t
+}
+
+fn room_for(s: Session, n: usize, line: usize, out: usize) -> bool
+    ensures { λ r. ⌜ r ≡ fits s n line out ⌝ }
+{
+    if line != 32 {
+        return false;
+    }
+    if 32 < s.held {
+        return false;
+    }
+    if out < s.printed {
+        return false;
+    }
+    n <= (out - s.printed) / 26
+}
+
+// ---- the session
+
+fn start_ring(ring: &mut [u32])
+    ensures { λ _. ⌜ now (ring .exit) ≡ ringStart (now (ring .entry)) ⌝ }
+{
+    set_word(ring, 0, 16);
+    set_word(ring, 1, 10256);
+    set_word(ring, 2, 16);
+    set_word(ring, 3, 16);
+}
+
+// A session on memories that are zero: the ring words are set.
+// Rules out: a session on a device that was not made; NEXT_CMD or STOP at 0.
+pub fn begin(ring: &mut [u32]) -> Start
+    ensures { λ r. ⌜ r ≡ readyWith (fresh 10256 1024) ⌝ }
+    ensures { λ r. ⌜ now (ring .exit) ≡ ringStart (now (ring .entry)) ⌝ }
+{
+    start_ring(ring);
+    let making = adapter::make(10256, 1024);
+    let Making::Made(device) = making else {
+        return Start::Refused;
+    };
+    Start::Ready(Session {
+        device,
+        held: 0,
+        printed: 0,
+    })
+}
+
+// Feeds a chunk of the input. The text goes behind what out has; the line has 32 bytes. Where out has no room for 26 bytes to each byte
+// of the chunk, nothing changes and nothing is printed.
+// Rules out: a line that the chunk's end cuts in two; an answer out of order or cut short.
+pub fn feed(
+    s: Session,
+    chunk: &[u8],
+    line: &mut [u8],
+    ring: &mut [u32],
+    framebuffer: &mut [u32],
+    screen: &mut [u32],
+    cursor: &mut [u32],
+    out: &mut [u8],
+) -> Session
+    ensures { λ r. ⌜ stateOf r (now (line .exit)) (now (ring .exit)) (now (framebuffer .exit)) (now (screen .exit)) (now (cursor .exit)) (now (out .exit)) ≡ cond (fits s (length (now (chunk .entry))) (length (now (line .entry))) (length (now (out .entry)))) (fedAll (stateOf s (now (line .entry)) (now (ring .entry)) (now (framebuffer .entry)) (now (screen .entry)) (now (cursor .entry)) (now (out .entry))) (now (chunk .entry))) (stateOf s (now (line .entry)) (now (ring .entry)) (now (framebuffer .entry)) (now (screen .entry)) (now (cursor .entry)) (now (out .entry))) ⌝ }
+{
+    let good = room_for(s, chunk.len(), line.len(), out.len());
+    if !good {
+        return s;
+    }
+    feed_bytes(s, chunk, line, ring, framebuffer, screen, cursor, out)
+}
+
+// The input has ended: a last line without newline is answered.
+// Rules out: a last line dropped; a line made of the nothing behind a last newline.
+pub fn finish(
+    s: Session,
+    line: &[u8],
+    ring: &mut [u32],
+    framebuffer: &mut [u32],
+    screen: &mut [u32],
+    cursor: &mut [u32],
+    out: &mut [u8],
+) -> Session
+    ensures { λ r. ⌜ stateOf r (now (line .entry)) (now (ring .exit)) (now (framebuffer .exit)) (now (screen .exit)) (now (cursor .exit)) (now (out .exit)) ≡ cond (fits s 1 (length (now (line .entry))) (length (now (out .entry)))) (ended (stateOf s (now (line .entry)) (now (ring .entry)) (now (framebuffer .entry)) (now (screen .entry)) (now (cursor .entry)) (now (out .entry)))) (stateOf s (now (line .entry)) (now (ring .entry)) (now (framebuffer .entry)) (now (screen .entry)) (now (cursor .entry)) (now (out .entry))) ⌝ }
+{
+    let good = room_for(s, 1, line.len(), out.len());
+    if !good {
+        return s;
+    }
+    if s.held < 1 {
+        return s;
+    }
+    answer_line(s, line, ring, framebuffer, screen, cursor, out)
+}
+
+// The text in out was written out: the next goes to its start.
+// Rules out: text that is written twice; a held line forgotten.
+pub fn flush(s: Session) -> Session
+    ensures { λ r. ⌜ r ≡ emptied s ⌝ }
+{
+    Session { printed: 0, ..s }
 }

@@ -19,7 +19,7 @@ returns-3 c = rw (c .before .before .before .before .before .request3 .given .1,
 
 returns-4 : tie.Need-returns-4
 unfolding performed
-returns-4 c = rw (c .before .before .before .before .before .request4 .given .1, c .before .before .set-pixel .ensures)
+returns-4 c = rw (c .before .before .before .before .before .request4 .given .1, c .before .before .set-word .ensures)
 
 returns-5 : tie.Need-returns-5
 unfolding performed

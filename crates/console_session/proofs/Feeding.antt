@@ -1,0 +1,72 @@
+-- A chunk is fed byte by byte; what fits; the device of a session that begins.
+-- Assumes nothing.
+use mathlib.Core.Path.{_≡_, refl, ap, sym, _∙_}
+use mathlib.Core.Bool.{Bool, true, false, _&&_}
+use mathlib.Core.List.{List, [], _∷_, _++_}
+use Prim.Native.Nat.{ℕ, _+_, _-_, _*_, _/_, _≤_, _<_}
+use native.Mathlib.Numerals.{add-one}
+use native.Mathlib.Omega.{arith}
+use lib.Dec.{eqb, leb}
+use lib.ListN.{length, getD, take}
+use lib.Seq.{take-suc}
+use borrow.Author.Tests.{eqb-true, leb-true, leb-false, le-leb, lt-leb}
+use Rattle.adapter.specs.declared.Making.{Making}
+use Rattle.adapter.specs.declared.Making.the-variants.{Made, Refused}
+use Rattle.adapter.specs.Device.{fresh, sizesGood}
+use Rattle.adapter.specs.Answers.{Creation, creation, madeOf}
+use Rattle.console_session.specs.declared.Session.{Session}
+use Rattle.console_session.specs.Parts.{Within}
+use Rattle.console_session.specs.Session.{State, fed, fedAll, fits}
+
+pub fed-behind : (s : State) (a : List ℕ) (b : ℕ) → fedAll s (a ++ (b ∷ [])) ≡ fed (fedAll s a) b
+unfolding fedAll
+fed-behind s [] b = refl
+fed-behind s (x ∷ a) b = fed-behind (fed s x) a b
+
+pub fed-one : (s : State) (chunk : List ℕ) (i : ℕ) → i < length chunk
+    → fedAll s (take (i + 1) chunk) ≡ fed (fedAll s (take i chunk)) (getD chunk i 0)
+fed-one s chunk i h = rw (add-one, take-suc chunk i 0 h) (fed-behind s (take i chunk) (getD chunk i 0))
+
+-- The loop over a chunk: of its bytes i are fed, and what is printed has room.
+pub record Feeding (s t : Session) (i chunk : ℕ) : Type 0 where
+  pub turn : i ≤ chunk
+  pub held : t .held ≤ 32
+  pub printed : t .printed ≤ s .printed + 26 * i
+
+-- ---- what fits
+
+first-true : (t u : Bool) → t && u ≡ true → t ≡ true
+first-true true u e = refl
+first-true false u e = e
+
+then-true : (t u : Bool) → t && u ≡ true → u ≡ true
+then-true true u e = e
+then-true false u e = absurd (let z : _≡_ {A = ℕ} 0 1 = cc in omega arith)
+
+pub fits-within : (s : Session) (n line out : ℕ) → fits s n line out ≡ true → Within s n line out
+unfolding fits
+fits-within s n line out e =
+    let rest = then-true (eqb line 32) _ e in record {
+      whole = eqb-true _ _ (first-true (eqb line 32) _ e);
+      held = leb-true _ _ (first-true (leb (s .held) 32) _ rest);
+      room = leb-true _ _ (then-true (leb (s .held) 32) _ rest);
+    }
+
+by-test : {A : Type 0} (t : Bool) → (t ≡ true → A) → (t ≡ false → A) → A
+by-test true f g = f refl
+by-test false f g = g refl
+
+pub room-test : (n printed out : ℕ) → printed ≤ out → leb n ((out - printed) / 26) ≡ leb (printed + 26 * n) out
+room-test n printed out h =
+    by-test (leb n ((out - printed) / 26))
+    (λ t. let k : n ≤ (out - printed) / 26 = leb-true _ _ t in
+    let room : printed + 26 * n ≤ out = omega arith in t ∙ sym (le-leb _ _ room))
+    (λ t. let k : (out - printed) / 26 < n = leb-false _ _ t in
+    let full : out < printed + 26 * n = omega arith in t ∙ sym (lt-leb _ _ full))
+
+-- ---- the device
+
+pub console-made : (m : Making) → creation m ≡ madeOf 10256 1024 → m ≡ Made (fresh 10256 1024)
+unfolding madeOf sizesGood
+console-made (Made d) e = let d-is = ap (λ (c : Creation). c .device) e in cc
+console-made Refused e = let z : _≡_ {A = ℕ} 34 0 = ap (λ (c : Creation). c .answer) e in absurd (omega arith)

@@ -1,0 +1,50 @@
+-- `console_session::feed_bytes` meets its contract.
+-- Assumes nothing.
+use mathlib.Core.Path.{_≡_, refl}
+use Prim.Native.Nat.{_-_}
+use native.Mathlib.Omega.{arith}
+use lib.ListN.{length, take}
+use lib.Seq.{take-all}
+use borrow.Author.Needs.{needs}
+use Rattle.console_session.specs.Session.{stateOf, fedAll}
+use Rattle.console_session.proofs.Feeding.{Feeding, fed-one}
+use Rattle.console_session.proofs.feed_bytes.Statement.{statement}
+use Rattle.console_session.proofs.feed_bytes.Tie as tie
+
+abbrev Inv-loop : tie.InvT-loop
+Inv-loop chunk line₀ ring₀ framebuffer₀ screen₀ cursor₀ out₀ t₀ i₀ line ring framebuffer screen cursor out t i =
+    (stateOf t line ring framebuffer screen cursor out ≡ fedAll (stateOf t₀ line₀ ring₀ framebuffer₀ screen₀ cursor₀ out₀) (take i chunk))
+    × (Feeding t₀ t i (length chunk)
+    × ((length line ≡ length line₀)
+    × ((length ring ≡ length ring₀)
+    × ((length framebuffer ≡ length framebuffer₀)
+    × ((length screen ≡ length screen₀) × ((length cursor ≡ length cursor₀) × (length out ≡ length out₀)))))))
+
+abbrev μ-loop : tie.MeasureT-loop
+μ-loop chunk line₀ ring₀ framebuffer₀ screen₀ cursor₀ out₀ t₀ i₀ line ring framebuffer screen cursor out t i = length chunk - i
+
+loop-holds : tie.Need-loop-holds Inv-loop μ-loop
+unfolding fedAll
+loop-holds c = (refl, search needs)
+
+feed-byte-requires : tie.Need-feed-byte-requires Inv-loop μ-loop
+feed-byte-requires c κs =
+    let fed = c .before .before .before .before .before .before .before .before .loop .inv .1 in
+    record { whole = omega (arith, c .before .before .before .before .before .before .before .before .before .before .before .before .before .before .before .before .pre .whole); held = fed .0 .held; room = omega (arith, c .before .before .before .before .before .before .before .before .before .before .before .before .before .before .before .before .pre .room, fed .0 .printed, c .before .before .before .before .before .before .before .loop-test .taken) }
+
+add-i : tie.Need-add-i Inv-loop μ-loop
+add-i c = record { fits = omega (arith, c .before .before .before .before .before .before .before .before .before .before .before .before .before .before .before .before .before .before .before .before .loop-test .taken, c .before .before .before .before .before .before .before .before .before .before .before .before .before .before .before .before .before .before .before .before .before .before .before .before .before .before .before .before .before .good .1 .0) }
+
+loop-again : tie.Need-loop-again Inv-loop μ-loop
+loop-again c =
+    let fed = c .before .before .before .before .before .before .before .before .before .before .before .before .feed-byte .ensures in
+    let so-far = c .before .before .before .before .before .before .before .before .before .before .before .before .before .before .before .before .before .before .before .before .before .loop .inv in
+    (rw (fed-one _ _ _ (c .before .before .before .before .before .before .before .before .before .before .before .before .before .before .before .before .before .before .before .before .loop-test .taken), ← (so-far .0)) (fed .0), search needs)
+
+returns : tie.Need-returns Inv-loop μ-loop
+returns c = rw (take-all _ _ (c .loop-test .left)) at (c .before .loop .inv .0)
+
+pub feed-bytes-spec : {M : Type 1} → statement M
+feed-bytes-spec =
+    tie.close
+    (tie.spec Inv-loop μ-loop loop-holds (λ c. search needs) feed-byte-requires add-i (λ c. search needs) loop-again (λ c. search needs) (λ c. search needs) (λ c. search needs) (λ c. search needs) (λ c. search needs) (λ c. search needs) returns)
