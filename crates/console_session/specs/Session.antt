@@ -45,6 +45,16 @@ ended s = cond (leb 1 (length (s .held))) (answered s) s
 abbrev pub flushed : State → State
 flushed s = record { console = s .console; held = s .held; printed = [] }
 
+-- All that is written where the input comes in chunks and the text is written out behind each, and at the end.
+unfoldable pub writtenOut : State → List (List ℕ) → List ℕ
+writtenOut s [] = ended s .printed
+writtenOut s (chunk ∷ chunks) = fedAll s chunk .printed ++ writtenOut (flushed (fedAll s chunk)) chunks
+
+-- The chunks as one input.
+unfoldable pub joined : List (List ℕ) → List ℕ
+joined [] = []
+joined (chunk ∷ chunks) = chunk ++ joined chunks
+
 -- ---- what the code keeps: a session, the lent memories, a line of 32 bytes and a buffer for the text
 
 abbrev pub stateOf : Session → List ℕ → List ℕ → List ℕ → List ℕ → List ℕ → List ℕ → State
