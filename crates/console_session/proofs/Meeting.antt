@@ -45,11 +45,11 @@ unfolding kept
 kept-first h b =
     by-test (ltb (length h) 32)
     (λ t. let short : length h < 32 = ltb-true _ _ t in
-      let all : length (h ++ (b ∷ [])) ≤ 32 = omega (arith, length-append h (b ∷ [])) in
-      rw (take-all 32 h (omega arith), t, take-all 32 (h ++ (b ∷ [])) all))
+    let all : length (h ++ (b ∷ [])) ≤ 32 = omega (arith, length-append h (b ∷ [])) in
+    rw (take-all 32 h (omega arith), t, take-all 32 (h ++ (b ∷ [])) all))
     (λ t. let long : 32 ≤ length h = ltb-false _ _ t in
-      let full : 32 ≤ length (take 32 h) = omega (arith, length-take-le 32 h long) in
-      rw (le-ltb _ _ full, take-append-le 32 h (b ∷ []) long))
+    let full : 32 ≤ length (take 32 h) = omega (arith, length-take-le 32 h long) in
+    rw (le-ltb _ _ full, take-append-le 32 h (b ∷ []) long))
 
 -- ---- by bytes
 
@@ -91,7 +91,7 @@ meets [] c h p = last-line c h p
 meets (b ∷ bs) c h p =
     by-test (eqb b 10)
     (λ t. rw (fed-newline c h p b t, lines-newline b bs h t)
-      (meets bs (performed c (requestOf h) .console) [] (p ++ textOf (performed c (requestOf h) .answer)) ∙ first-answer c p h (linesOf bs)))
+    (meets bs (performed c (requestOf h) .console) [] (p ++ textOf (performed c (requestOf h) .answer)) ∙ first-answer c p h (linesOf bs)))
     (λ t. rw (fed-other c h p b t, lines-other b bs h t) (meets bs c (h ++ (b ∷ [])) p))
 
 pub by-bytes : (input : List ℕ) → ended (fedAll begun input) .printed ≡ outputOf input

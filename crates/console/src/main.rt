@@ -1,0 +1,142 @@
+// The console: reads requests from standard input, a line each, and prints the answers. What is read and what is printed
+// is `console_session`'s; here are the calls of read and write.
+use console_session::Session;
+use console_session::Start;
+use libc::STDIN_FILENO;
+use libc::STDOUT_FILENO;
+ghost use Prim.Native.Nat.{_≤_};
+ghost use lib.ListN.{length};
+
+// A session, and whether there is more to read.
+struct Step {
+    session: Session,
+    more: bool,
+}
+
+// One read: how many bytes of the buffer it filled, 0 at the end of the input or where the read fails.
+fn fill(buffer: &mut [u8]) -> usize
+    ensures { λ r. ⌜ r ≤ length (now (buffer .exit)) ⌝ }
+{
+    let got = libc::read(STDIN_FILENO, buffer);
+    io::count(got, buffer)
+}
+
+fn write_out(out: &[u8], n: usize) -> bool {
+    if out.len() < n {
+        return false;
+    }
+    io::write_all(STDOUT_FILENO, &out[0..n])
+}
+
+// One read, its lines, one write.
+fn turn(
+    s: Session,
+    buffer: &mut [u8],
+    line: &mut [u8],
+    ring: &mut [u32],
+    framebuffer: &mut [u32],
+    screen: &mut [u32],
+    cursor: &mut [u32],
+    out: &mut [u8],
+) -> Step {
+    let n = fill(buffer);
+    if n == 0 {
+        return Step {
+            session: s,
+            more: false,
+        };
+    }
+    let fed = console_session::feed(
+        s,
+        &buffer[0..n],
+        line,
+        ring,
+        framebuffer,
+        screen,
+        cursor,
+        out,
+    );
+    let more = write_out(out, fed.printed);
+    Step {
+        session: console_session::flush(fed),
+        more,
+    }
+}
+
+// Nothing says that the input ends, and a proved loop has to: turns are counted down from a number that no input uses up.
+fn serve(
+    s: Session,
+    buffer: &mut [u8],
+    line: &mut [u8],
+    ring: &mut [u32],
+    framebuffer: &mut [u32],
+    screen: &mut [u32],
+    cursor: &mut [u32],
+    out: &mut [u8],
+) -> Session {
+    let mut session = s;
+    let mut turns = u64::MAX;
+    while turns > 0 {
+        let t = turn(
+            session,
+            buffer,
+            line,
+            ring,
+            framebuffer,
+            screen,
+            cursor,
+            out,
+        );
+        session = t.session;
+        turns = if t.more { turns - 1 } else { 0 };
+    }
+    session
+}
+
+// A last line without newline.
+fn close(
+    s: Session,
+    line: &[u8],
+    ring: &mut [u32],
+    framebuffer: &mut [u32],
+    screen: &mut [u32],
+    cursor: &mut [u32],
+    out: &mut [u8],
+) {
+    let ended = console_session::finish(s, line, ring, framebuffer, screen, cursor, out);
+    write_out(out, ended.printed);
+}
+
+// M = 10,256 bytes, P = 1,024 pixels, a cursor image of 64 by 64; room for 26 bytes of text to each byte of a chunk.
+fn main() {
+    let mut buffer = io::buffer();
+    let mut line = [0u8; 32];
+    let mut ring = [0u32; 2564];
+    let mut framebuffer = [0u32; 1024];
+    let mut screen = [0u32; 1024];
+    let mut cursor = [0u32; 4096];
+    let mut out = [0u8; 106496];
+    let start = console_session::begin(&mut ring);
+    let Start::Ready(session) = start else {
+        return;
+    };
+    let served = serve(
+        session,
+        &mut buffer,
+        &mut line,
+        &mut ring,
+        &mut framebuffer,
+        &mut screen,
+        &mut cursor,
+        &mut out,
+    );
+    close(
+        served,
+        &line,
+        &mut ring,
+        &mut framebuffer,
+        &mut screen,
+        &mut cursor,
+        &mut out,
+    );
+}
