@@ -1,8 +1,9 @@
--- Four lines and their requests, computed.
+-- Four lines and their requests, and two inputs and their lines, computed.
 -- Assumes nothing.
 use mathlib.Core.Path.{_≡_, refl}
 use mathlib.Core.List.{[], _∷_}
 use Rattle.console_lines.specs.declared.Request.the-variants.{Write, Append, Bad}
+use Rattle.console_lines.specs.Input.{linesOf}
 use Rattle.console_lines.specs.Lines.{fields, digits, decimal, numberOf, same, withOne, withTwo, requestIn, requestOf}
 
 -- "w\t2\t32"
@@ -24,3 +25,13 @@ word-above = refl
 pub place-above : requestOf (115 ∷ 9 ∷ 49 ∷ 48 ∷ 50 ∷ 52 ∷ []) ≡ Bad
 unfolding fields digits decimal numberOf same withOne requestIn requestOf
 place-above = refl
+
+-- "a\n\nb": an empty line, and a last line without newline
+pub three-lines : linesOf (97 ∷ 10 ∷ 10 ∷ 98 ∷ []) ≡ (97 ∷ []) ∷ [] ∷ (98 ∷ []) ∷ []
+unfolding linesOf
+three-lines = refl
+
+-- "a\n": no line after the newline
+pub one-line : linesOf (97 ∷ 10 ∷ []) ≡ (97 ∷ []) ∷ []
+unfolding linesOf
+one-line = refl

@@ -6,8 +6,9 @@ use mathlib.Core.List.{List}
 use lib.Dec.{eqb}
 use Rattle.ring.specs.Append.{Appended}
 use Rattle.adapter.specs.declared.Device.{Device}
+use Rattle.adapter.specs.Answers.{Outcome}
 use Rattle.console_answers.specs.declared.Answer.{Answer}
-use Rattle.console_answers.specs.declared.Answer.the-variants.{Full, Nothing}
+use Rattle.console_answers.specs.declared.Answer.the-variants.{Written, Full, Nothing}
 use Rattle.console_session.specs.declared.Performed.{Performed as Done}
 use Rattle.console_session.specs.declared.Session.{Session}
 use Rattle.console_session.specs.declared.Start.{Start}
@@ -17,6 +18,14 @@ use Rattle.console_session.specs.Console.{Performed, consoleOf}
 abbrev pub performedOf : Done → List ℕ → List ℕ → List ℕ → List ℕ → Performed
 performedOf r ring framebuffer screen cursor =
     record { console = consoleOf (r .device) ring framebuffer screen cursor; answer = r .answer }
+
+-- The device stays.
+abbrev pub keepingOf : Device → Answer → Done
+keepingOf d answer = record { device = d; answer = answer }
+
+-- The answer to a register write, and the device that it left.
+abbrev pub writtenOf : ℕ → Outcome → Done
+writtenOf index o = record { device = o .device; answer = Written index (o .answer) }
 
 -- The answer to an append, and the ring memory that it left.
 pub record appendAnswer (answer : Answer) (ring : List ℕ) (a : Appended) : Type 0 where

@@ -5,10 +5,11 @@ ghost use mathlib.Core.Bool.{cond};
 ghost use lib.ListN.{length, getD, set, take};
 ghost use Rattle.ring.specs.Append.{appendOf};
 ghost use Rattle.adapter.specs.Device.{fresh};
-ghost use Rattle.adapter.specs.Registers.{readOf};
+ghost use Rattle.adapter.specs.Registers.{readOf, written};
+ghost use Rattle.console_lines.specs.declared.Request.the-variants.{Run};
 ghost use Rattle.console_session.specs.Console.{performed, consoleOf, ringStart};
 ghost use Rattle.console_session.specs.Session.{stateOf, answered, kept, fed, fedAll, ended, fits};
-ghost use Rattle.console_session.specs.Parts.{performedOf, appendAnswer, readyWith, emptied, Within};
+ghost use Rattle.console_session.specs.Parts.{performedOf, keepingOf, writtenOf, appendAnswer, readyWith, emptied, Within};
 use adapter::Device;
 use adapter::Making;
 use adapter::Value;
@@ -77,6 +78,40 @@ fn pixel_at(screen: &[u32], place: u32) -> u32
     0
 }
 
+// The device stays.
+fn keeping(d: Device, answer: Answer) -> Performed
+    ensures { λ r. ⌜ r ≡ keepingOf d answer ⌝ }
+{
+    Performed { answer, device: d }
+}
+
+fn write_register(d: Device, ring: &[u32], index: u32, value: u32) -> Performed
+    ensures { λ r. ⌜ r ≡ writtenOf index (written d (now (ring .entry)) index value) ⌝ }
+{
+    let w = adapter::write(d, ring, index, value);
+    let number = w.answer;
+    let answer = Answer::Written(index, adapter::write_number(number));
+    let device = w.device;
+    Performed { answer, device }
+}
+
+fn run_device(
+    d: Device,
+    ring: &mut [u32],
+    framebuffer: &[u32],
+    screen: &mut [u32],
+    cursor: &mut [u32],
+    budget: u32,
+) -> Performed
+    ensures { λ r. ⌜ performedOf r (now (ring .exit)) (now (framebuffer .entry)) (now (screen .exit)) (now (cursor .exit)) ≡ performed (consoleOf d (now (ring .entry)) (now (framebuffer .entry)) (now (screen .entry)) (now (cursor .entry))) (Run budget) ⌝ }
+{
+    let r = adapter::run(d, ring, framebuffer, screen, cursor, budget);
+    let number = r.answer;
+    let answer = Answer::Ran(adapter::run_number(number), r.count);
+    let device = r.device;
+    Performed { answer, device }
+}
+
 // Performs a request. The text of its answer is `console_answers::print`'s.
 // Rules out: a bad line that changes the device; a run that changes the framebuffer; an absent register with a value.
 pub fn perform(
@@ -90,43 +125,16 @@ pub fn perform(
     ensures { λ r. ⌜ performedOf r (now (ring .exit)) (now (framebuffer .exit)) (now (screen .exit)) (now (cursor .exit)) ≡ performed (consoleOf d (now (ring .entry)) (now (framebuffer .entry)) (now (screen .entry)) (now (cursor .entry))) request ⌝ }
 {
     match request {
-        Request::Write(index, value) => {
-            let w = adapter::write(d, ring, index, value);
-            let number = w.answer;
-            let answer = Answer::Written(index, adapter::write_number(number));
-            let device = w.device;
-            return Performed { answer, device };
-        }
-        Request::Read(index) => {
-            let answer = Answer::Value(index, value_of(d, index));
-            return Performed { answer, device: d };
-        }
-        Request::Append(word) => {
-            let answer = append(ring, word);
-            return Performed { answer, device: d };
-        }
+        Request::Write(index, value) => return write_register(d, ring, index, value),
+        Request::Read(index) => return keeping(d, Answer::Value(index, value_of(d, index))),
+        Request::Append(word) => return keeping(d, append(ring, word)),
         Request::Pixel(place, pixel) => {
             set_word(framebuffer, place, pixel);
-            return Performed {
-                answer: Answer::Nothing,
-                device: d,
-            };
+            return keeping(d, Answer::Nothing);
         }
-        Request::Run(budget) => {
-            let r = adapter::run(d, ring, framebuffer, screen, cursor, budget);
-            let number = r.answer;
-            let answer = Answer::Ran(adapter::run_number(number), r.count);
-            let device = r.device;
-            return Performed { answer, device };
-        }
-        Request::Screen(place) => {
-            let answer = Answer::Shown(place, pixel_at(screen, place));
-            return Performed { answer, device: d };
-        }
-        Request::Bad => return Performed {
-            answer: Answer::Bad,
-            device: d,
-        },
+        Request::Run(budget) => return run_device(d, ring, framebuffer, screen, cursor, budget),
+        Request::Screen(place) => return keeping(d, Answer::Shown(place, pixel_at(screen, place))),
+        Request::Bad => return keeping(d, Answer::Bad),
     }
 }
 
