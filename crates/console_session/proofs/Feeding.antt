@@ -9,14 +9,13 @@ use native.Mathlib.Omega.{arith}
 use lib.Dec.{eqb, leb}
 use lib.ListN.{length, getD, take}
 use lib.Seq.{take-suc}
-use borrow.Author.Tests.{eqb-true, leb-true, leb-false, le-leb, lt-leb}
+use borrow.Author.Tests.{eq-eqb, eqb-true, leb-true, leb-false, le-leb, lt-leb}
 use Rattle.adapter.specs.declared.Making.{Making}
 use Rattle.adapter.specs.declared.Making.the-variants.{Made, Refused}
 use Rattle.adapter.specs.Device.{fresh, sizesGood}
 use Rattle.adapter.specs.Answers.{Creation, creation, madeOf}
 use Rattle.console_session.specs.declared.Session.{Session}
-use Rattle.console_session.specs.Parts.{Within}
-use Rattle.console_session.specs.Session.{State, fed, fedAll, fits}
+use Rattle.console_session.specs.Session.{State, fed, fedAll, fits, Within}
 
 pub fed-behind : (s : State) (a : List ℕ) (b : ℕ) → fedAll s (a ++ (b ∷ [])) ≡ fed (fedAll s a) b
 unfolding fedAll
@@ -51,6 +50,13 @@ fits-within s n line out e =
       held = leb-true _ _ (first-true (leb (s .held) 32) _ rest);
       room = leb-true _ _ (then-true (leb (s .held) 32) _ rest);
     }
+
+pub within-fits : (s : Session) (n line out : ℕ) → Within s n line out → fits s n line out ≡ true
+unfolding fits
+within-fits s n line out w = rw (eq-eqb line 32 (w .whole), le-leb _ 32 (w .held), le-leb _ _ (w .room))
+
+pub within-none : {s : Session} {n line out : ℕ} → Within s n line out → Within s 0 line out
+within-none w = record { whole = w .whole; held = w .held; room = omega (arith, w .room) }
 
 by-test : {A : Type 0} (t : Bool) → (t ≡ true → A) → (t ≡ false → A) → A
 by-test true f g = f refl

@@ -1,5 +1,5 @@
 -- What the inner functions answer.
-use Prim.Native.Nat.{ℕ, _+_, _*_, _≤_}
+use Prim.Native.Nat.{ℕ}
 use mathlib.Core.Path.{_≡_}
 use mathlib.Core.Bool.{cond}
 use mathlib.Core.List.{List}
@@ -32,16 +32,6 @@ pub record appendAnswer (answer : Answer) (ring : List ℕ) (a : Appended) : Typ
   pub says : answer ≡ cond (eqb (a .answer) 0) Nothing Full
   pub leaves : ring ≡ a .ring
 
--- The line has 32 bytes, the held ones are among them, and out has room for n answers more.
-pub record Within (s : Session) (n line out : ℕ) : Type 0 where
-  pub whole : line ≡ 32
-  pub held : s .held ≤ 32
-  pub room : s .printed + 26 * n ≤ out
-
 -- A session that begins.
 abbrev pub readyWith : Device → Start
 readyWith d = Ready (record { device = d; held = 0; printed = 0 })
-
--- What was printed is written out.
-abbrev pub emptied : Session → Session
-emptied s = record { device = s .device; held = s .held; printed = 0 }

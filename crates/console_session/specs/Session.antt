@@ -1,5 +1,6 @@
 -- The console fed byte by byte, in constant memory: of a line it keeps the first 32 bytes.
-use Prim.Native.Nat.{ℕ, _+_, _*_}
+use Prim.Native.Nat.{ℕ, _+_, _*_, _≤_}
+use mathlib.Core.Path.{_≡_}
 use mathlib.Core.Bool.{Bool, cond, _&&_}
 use mathlib.Core.List.{List, [], _∷_, _++_}
 use lib.Dec.{eqb, ltb, leb}
@@ -67,3 +68,13 @@ stateOf s line ring framebuffer screen cursor out = record {
 -- The line has 32 bytes, and out has room for the answers to n lines, each of at most 26 bytes.
 unfoldable pub fits : Session → ℕ → ℕ → ℕ → Bool
 fits s n line out = eqb line 32 && (leb (s .held) 32 && leb (s .printed + 26 * n) out)
+
+-- The same as facts.
+pub record Within (s : Session) (n line out : ℕ) : Type 0 where
+  pub whole : line ≡ 32
+  pub held : s .held ≤ 32
+  pub room : s .printed + 26 * n ≤ out
+
+-- What was printed is written out.
+abbrev pub emptied : Session → Session
+emptied s = record { device = s .device; held = s .held; printed = 0 }

@@ -8,8 +8,8 @@ ghost use Rattle.adapter.specs.Device.{fresh};
 ghost use Rattle.adapter.specs.Registers.{readOf, written};
 ghost use Rattle.console_lines.specs.declared.Request.the-variants.{Run};
 ghost use Rattle.console_session.specs.Console.{performed, consoleOf, ringStart};
-ghost use Rattle.console_session.specs.Session.{stateOf, answered, kept, fed, fedAll, ended, fits};
-ghost use Rattle.console_session.specs.Parts.{performedOf, keepingOf, writtenOf, appendAnswer, readyWith, emptied, Within};
+ghost use Rattle.console_session.specs.Session.{stateOf, answered, kept, fed, fedAll, ended, fits, Within, emptied};
+ghost use Rattle.console_session.specs.Parts.{performedOf, keepingOf, writtenOf, appendAnswer, readyWith};
 use adapter::Device;
 use adapter::Making;
 use adapter::Value;
@@ -217,6 +217,7 @@ fn feed_bytes(
 ) -> Session
     requires { ⌜ Within s (length (now chunk)) (length (now line)) (length (now out)) ⌝ }
     ensures { λ r. ⌜ stateOf r (now (line .exit)) (now (ring .exit)) (now (framebuffer .exit)) (now (screen .exit)) (now (cursor .exit)) (now (out .exit)) ≡ fedAll (stateOf s (now (line .entry)) (now (ring .entry)) (now (framebuffer .entry)) (now (screen .entry)) (now (cursor .entry)) (now (out .entry))) (now (chunk .entry)) ⌝ }
+    ensures { λ r. ⌜ Within r 0 (length (now (line .entry))) (length (now (out .entry))) ⌝ }
 {
     let mut t = s;
     let mut i = 0;
@@ -285,6 +286,7 @@ pub fn feed(
     out: &mut [u8],
 ) -> Session
     ensures { λ r. ⌜ stateOf r (now (line .exit)) (now (ring .exit)) (now (framebuffer .exit)) (now (screen .exit)) (now (cursor .exit)) (now (out .exit)) ≡ cond (fits s (length (now (chunk .entry))) (length (now (line .entry))) (length (now (out .entry)))) (fedAll (stateOf s (now (line .entry)) (now (ring .entry)) (now (framebuffer .entry)) (now (screen .entry)) (now (cursor .entry)) (now (out .entry))) (now (chunk .entry))) (stateOf s (now (line .entry)) (now (ring .entry)) (now (framebuffer .entry)) (now (screen .entry)) (now (cursor .entry)) (now (out .entry))) ⌝ }
+    ensures { λ r. ⌜ (Within s (length (now (chunk .entry))) (length (now (line .entry))) (length (now (out .entry))) → Within r 0 (length (now (line .entry))) (length (now (out .entry)))) ⌝ }
 {
     let good = room_for(s, chunk.len(), line.len(), out.len());
     if !good {
@@ -305,6 +307,7 @@ pub fn finish(
     out: &mut [u8],
 ) -> Session
     ensures { λ r. ⌜ stateOf r (now (line .entry)) (now (ring .exit)) (now (framebuffer .exit)) (now (screen .exit)) (now (cursor .exit)) (now (out .exit)) ≡ cond (fits s 1 (length (now (line .entry))) (length (now (out .entry)))) (ended (stateOf s (now (line .entry)) (now (ring .entry)) (now (framebuffer .entry)) (now (screen .entry)) (now (cursor .entry)) (now (out .entry)))) (stateOf s (now (line .entry)) (now (ring .entry)) (now (framebuffer .entry)) (now (screen .entry)) (now (cursor .entry)) (now (out .entry))) ⌝ }
+    ensures { λ r. ⌜ (Within s 1 (length (now (line .entry))) (length (now (out .entry))) → Within r 0 (length (now (line .entry))) (length (now (out .entry)))) ⌝ }
 {
     let good = room_for(s, 1, line.len(), out.len());
     if !good {

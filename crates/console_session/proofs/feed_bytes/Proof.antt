@@ -42,7 +42,11 @@ loop-again c =
     (rw (fed-one _ _ _ (c .before .before .before .before .before .before .before .before .before .before .before .before .before .before .before .before .before .before .before .before .loop-test .taken), ← (so-far .0)) (fed .0), search needs)
 
 returns : tie.Need-returns Inv-loop μ-loop
-returns c = rw (take-all _ _ (c .loop-test .left)) at (c .before .loop .inv .0)
+returns c =
+    let fed = c .before .loop .inv .1 .0 in (
+      rw (take-all _ _ (c .loop-test .left)) at (c .before .loop .inv .0),
+      record { whole = c .before .before .before .before .before .before .before .before .before .pre .whole; held = fed .held; room = omega (arith, c .before .before .before .before .before .before .before .before .before .pre .room, fed .printed, fed .turn) },
+    )
 
 pub feed-bytes-spec : {M : Type 1} → statement M
 feed-bytes-spec =
