@@ -3,26 +3,28 @@
 use mathlib.Core.Path.{_≡_, refl, ap₂}
 use mathlib.Core.Bool.{true}
 use mathlib.Core.List.{List, [], _∷_, _++_, map}
-use Prim.Native.Nat.{ℕ, _+_, _-_}
+use Prim.Native.Nat.{ℕ, _+_, _*_, _≤_}
 use native.Mathlib.Omega.{arith}
 use native.Mathlib.Nat.{add-zero, zero-add}
 use lib.ListN.{length, length-append}
 use Rattle.order.specs.Straight.{Turn}
 use Rattle.order.specs.Claim.{Op, taken, fed}
 use Rattle.order.specs.Claim as C
-use Rattle.order.specs.Queue.{Queue, fresh, act, play}
+use Rattle.order.specs.Queue.{Queue, Played, fresh, act, play}
+use Rattle.order.proofs.Laws.{Laws}
 use Rattle.order.proofs.QueueLaws.{play-ops, demand3}
 use Rattle.ring.specs.declared.Ring.{Ring}
+use Rattle.ring.specs.Acceptance.{stopOf}
 use Rattle.ring.specs.Waiting.{carried}
 use Rattle.command.proofs.Laws.{command-laws}
 use Rattle.effect.specs.Effects.{Machine}
 use Rattle.adapter.specs.declared.Condition.the-variants.{Running}
 use Rattle.adapter.specs.Device.{conditionOf}
-use Rattle.replay.specs.Calls.{World, Outcome, perform, performAll}
+use Rattle.replay.specs.Calls.{World, Outcome, perform, History, performAll}
 use Rattle.replay.specs.Demand.{isStart, turnIn, machineIn, callOf, numbersOf, Demand, Shown}
 use Rattle.replay.specs.Replay.{opsOf, walk, walkOf, Replays}
 use Rattle.replay.proofs.Places.{in-words}
-use Rattle.replay.proofs.Steps.{Started, Shows, Step, shows-stands, shows-stop, append-step, run-step, started, start-shows}
+use Rattle.replay.proofs.Steps.{Started, Shows, Step, shows-stands, shows-ring, shows-stop, append-step, run-step, started, start-shows}
 
 module _ (g : Ring) (w₀ : World) where
   abbrev cap : ℕ
@@ -53,23 +55,43 @@ module _ (g : Ring) (w₀ : World) where
         rw length-append (omega arith) in
         record { told = ap₂ _∷_ (f .told) (r .told); shows = rw (← same) (r .shows) }
 
-pub demand-3 : (g : Ring) (w₀ : World) → isStart w₀ ≡ true → conditionOf (w₀ .device) ≡ Running g → (os : List Op) → Shown g w₀ os (performAll (map callOf os) w₀)
-demand-3 g w₀ e q os =
-    let s₀ = start-shows g w₀ e q in
-    let i = in-words (g .min) (g .max) (w₀ .lent .ring) (s₀ .holds) in
-    let p = play (cap g w₀) (turn g w₀) os (fresh (machineIn w₀)) in
-    let r = plays g w₀ (started w₀ e) os 0 w₀ (fresh (machineIn w₀)) s₀ in
-    let s = rw zero-add at (r .shows) in
-    let laws = command-laws _ (cap g w₀) (omega arith) in
-    record {
-      events = p .events;
-      asked = play-ops (cap g w₀) (turn g w₀) os (fresh (machineIn w₀));
-      answered = r .told;
-      demand = record {
-        claim = rw (s .line, shows-stands g w₀ s) (demand3 laws (machineIn w₀) (omega arith) os);
-        word-3 = shows-stop g w₀ s;
-      };
-    }
+module _ (g : Ring) (w₀ : World) (e : isStart w₀ ≡ true) (q : conditionOf (w₀ .device) ≡ Running g) (os : List Op) where
+  abbrev played : Played Machine
+  played = play (cap g w₀) (turn g w₀) os (fresh (machineIn w₀))
+
+  abbrev history : History
+  history = performAll (map callOf os) w₀
+
+  led : Plays g w₀ 0 w₀ (fresh (machineIn w₀)) os
+  led = plays g w₀ (started w₀ e) os 0 w₀ (fresh (machineIn w₀)) (start-shows g w₀ e q)
+
+  shown : Shows g w₀ (length (fed (played .events))) (history .world) (played .queue)
+  shown = rw zero-add at (led .shows)
+
+  laws : (8 ≤ cap g w₀) × Laws (cap g w₀) (turn g w₀)
+  laws =
+      let i = in-words (g .min) (g .max) (w₀ .lent .ring) (start-shows g w₀ e q .holds) in
+      let h : 8 ≤ cap g w₀ = omega arith in
+      (h, command-laws _ (cap g w₀) h)
+
+  -- DEMAND 3: from every start, every list of appends and runs through the public calls.
+  pub demand-3 : Shown g w₀ os history
+  demand-3 = record {
+    events = played .events;
+    asked = play-ops (cap g w₀) (turn g w₀) os (fresh (machineIn w₀));
+    answered = led .told;
+    demand = record {
+      claim = rw (shown .line, shows-stands g w₀ shown) (demand3 (laws .1) (machineIn w₀) (omega (arith, laws .0)) os);
+      word-3 = shows-stop g w₀ shown;
+      remembered = shows-ring g w₀ shown;
+    };
+  }
+
+  -- The device's sizes and registers and the framebuffer stay.
+  pub stays : (history .world .device .sizes ≡ w₀ .device .sizes)
+      × (history .world .device .registers ≡ w₀ .device .registers)
+      × (history .world .lent .framebuffer ≡ w₀ .lent .framebuffer)
+  stays = (shown .sizes, shown .registers, shown .framebuffer)
 
 -- the same of a list of words
 pub replays : (w₀ : World) (list₀ list : List ℕ) (w : World) → isStart w₀ ≡ true → walk list w ≡ walkOf list₀ w₀ → Replays w₀ list₀ list w

@@ -91,6 +91,10 @@ stands-for : (f : Option Cause) (g : Ring) → standsIn (conditionFor f g) ≡ f
 stands-for none g = refl
 stands-for (some c) g = refl
 
+ring-for : (f : Option Cause) (g h : Ring) → conditionFor f g ≡ Running h → h ≡ g
+ring-for none g h e = cc
+ring-for (some c) g h e = let z : _≡_ {A = ℕ} 0 1 = cc in absurd (omega arith)
+
 -- what the start has shown of the device and the framebuffer
 pub record Started (w₀ : World) : Type 0 where
   pub sizes : sizesGood (memoryOf (w₀ .device)) (pixelsOf (w₀ .device)) ≡ true
@@ -125,6 +129,14 @@ module _ (g : Ring) (w₀ : World) where
 
   pub shows-stands : {k : ℕ} {w : World} {q : Queue Machine} → Shows k w q → standsIn (conditionOf (w .device)) ≡ q .stands
   shows-stands {q} s = ap standsIn (s .condition) ∙ stands-for (q .stands) _
+
+  -- the remembered ring
+  pub shows-ring : {k : ℕ} {w : World} {q : Queue Machine} → Shows k w q → (h : Ring) → conditionOf (w .device) ≡ Running h
+      → (h .min ≡ g .min) × (h .max ≡ g .max) × (4 * h .stop ≡ stopOf (w .lent .ring))
+  shows-ring {w} {q} s h e =
+      let same = ring-for (q .stands) _ h (sym (s .condition) ∙ e) in
+      let i = in-words (g .min) (g .max) (w .lent .ring) (s .holds) in
+      (ap (λ (r : Ring). r .min) same, ap (λ (r : Ring). r .max) same, ap (λ (r : Ring). 4 * r .stop) same ∙ sym (i .stop-is))
 
   -- "ring word 3 has moved on by 4 for each word dropped": for all that were taken but those that wait
   pub shows-stop : {k : ℕ} {w : World} {q : Queue Machine} → Shows k w q

@@ -74,6 +74,8 @@ pub record Demand (g : Ring) (w₀ : World) (es : List Event) (w : World) : Type
   pub claim : Demand3 (carried (g .min) (g .max)) (turnIn w₀ g) (machineIn w₀) es (lineIn g w) (standsIn (conditionOf (w .device)))
   -- "ring word 3 has moved on by 4 for each word dropped, wrapping"
   pub word-3 : stopOf (w .lent .ring) ≡ 4 * wordsOn (g .min) (g .max) (g .stop) (length (fed es) - length (wordsIn g w))
+  -- and where no fault stands it is the STOP that the device remembers, with the start's MIN and MAX
+  pub remembered : (h : Ring) → conditionOf (w .device) ≡ Running h → (h .min ≡ g .min) × (h .max ≡ g .max) × (4 * h .stop ≡ stopOf (w .lent .ring))
 
 -- "any list of appends, one word each by the published rule, and runs of any budget", as calls
 abbrev pub callOf : Op → Call
