@@ -5,11 +5,14 @@ use console_session::Start;
 use libc::STDIN_FILENO;
 use libc::STDOUT_FILENO;
 ghost use Prim.Native.Nat.{_≤_};
-ghost use lib.ListN.{length};
+ghost use mathlib.Core.Path.{_≡_};
+ghost use lib.ListN.{length, take};
+ghost use Rattle.console_session.specs.Session.{stateOf, fedAll, flushed, Within};
 
-// A session, and whether there is more to read.
+// A session, the bytes that were read for it, and whether there may be more.
 struct Step {
     session: Session,
+    read: usize,
     more: bool,
 }
 
@@ -21,14 +24,21 @@ fn fill(buffer: &mut [u8]) -> usize
     io::count(got, buffer)
 }
 
-fn write_out(out: &[u8], n: usize) -> bool {
-    if out.len() < n {
-        return false;
-    }
+fn write_out(out: &[u8], n: usize) -> bool
+    requires { ⌜ n ≤ length (now out) ⌝ }
+{
     io::write_all(STDOUT_FILENO, &out[0..n])
 }
 
-// One read, its lines, one write.
+// Nothing read is the input's end; nobody reads what cannot be written.
+fn goes_on(sent: bool, n: usize) -> bool {
+    if sent {
+        return 0 < n;
+    }
+    false
+}
+
+// One read, its lines, one write. Every byte read is fed: there is always room.
 fn turn(
     s: Session,
     buffer: &mut [u8],
@@ -38,14 +48,12 @@ fn turn(
     screen: &mut [u32],
     cursor: &mut [u32],
     out: &mut [u8],
-) -> Step {
+) -> Step
+    requires { ⌜ Within s (length (now buffer)) (length (now line)) (length (now out)) ⌝ }
+    ensures { λ r. ⌜ stateOf (r .session) (now (line .exit)) (now (ring .exit)) (now (framebuffer .exit)) (now (screen .exit)) (now (cursor .exit)) (now (out .exit)) ≡ flushed (fedAll (stateOf s (now (line .entry)) (now (ring .entry)) (now (framebuffer .entry)) (now (screen .entry)) (now (cursor .entry)) (now (out .entry))) (take (r .read) (now (buffer .exit)))) ⌝ }
+    ensures { λ r. ⌜ Within (r .session) (length (now (buffer .entry))) (length (now (line .entry))) (length (now (out .entry))) ⌝ }
+{
     let n = fill(buffer);
-    if n == 0 {
-        return Step {
-            session: s,
-            more: false,
-        };
-    }
     let fed = console_session::feed(
         s,
         &buffer[0..n],
@@ -56,9 +64,12 @@ fn turn(
         cursor,
         out,
     );
-    let more = write_out(out, fed.printed);
+    let sent = write_out(out, fed.printed);
+    let session = console_session::flush(fed);
+    let more = goes_on(sent, n);
     Step {
-        session: console_session::flush(fed),
+        session,
+        read: n,
         more,
     }
 }
@@ -73,7 +84,10 @@ fn serve(
     screen: &mut [u32],
     cursor: &mut [u32],
     out: &mut [u8],
-) -> Session {
+) -> Session
+    requires { ⌜ Within s (length (now buffer)) (length (now line)) (length (now out)) ⌝ }
+    ensures { λ r. ⌜ Within r (length (now (buffer .entry))) (length (now (line .entry))) (length (now (out .entry))) ⌝ }
+{
     let mut session = s;
     let mut turns = u64::MAX;
     while turns > 0 {
@@ -94,7 +108,7 @@ fn serve(
 }
 
 // A last line without newline.
-fn close(
+fn end(
     s: Session,
     line: &[u8],
     ring: &mut [u32],
@@ -102,7 +116,9 @@ fn close(
     screen: &mut [u32],
     cursor: &mut [u32],
     out: &mut [u8],
-) {
+)
+    requires { ⌜ Within s 1 (length (now line)) (length (now out)) ⌝ }
+{
     let ended = console_session::finish(s, line, ring, framebuffer, screen, cursor, out);
     write_out(out, ended.printed);
 }
@@ -130,7 +146,7 @@ fn main() {
         &mut cursor,
         &mut out,
     );
-    close(
+    end(
         served,
         &line,
         &mut ring,

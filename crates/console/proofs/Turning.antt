@@ -1,0 +1,42 @@
+-- A chunk that was read fits, and a session between two turns has room for the next.
+-- Assumes nothing.
+use mathlib.Core.Path.{_≡_, sym, _∙_}
+use mathlib.Core.Bool.{cond}
+use mathlib.Core.List.{List}
+use Prim.Native.Nat.{ℕ, _-_, _≤_}
+use native.Mathlib.Omega.{arith}
+use lib.ListN.{length, take, drop, length-take}
+use Rattle.adapter.specs.declared.Device.{Device}
+use Rattle.console_session.specs.declared.Session.{Session}
+use Rattle.console_session.specs.declared.Start.{Start}
+use Rattle.console_session.specs.declared.Start.the-variants.{Ready}
+use Rattle.console_session.specs.Parts.{readyWith}
+use Rattle.console_session.specs.Session.{State, fits, Within}
+use Rattle.console_session.proofs.Feeding.{within-fits}
+
+pub chunk-within : {s : Session} {room line out : ℕ} (l : List ℕ) (n : ℕ) → length l ≡ room → Within s room line out
+    → Within s (length (take (n - 0) (drop 0 l))) line out
+chunk-within l n e w = record { whole = w .whole; held = w .held; room = omega (arith, w .room, length-take (n - 0) l) }
+
+pub fed-whole : {s : Session} {n line out : ℕ} → Within s n line out → (t a b : State) → t ≡ cond (fits s n line out) a b → t ≡ a
+fed-whole {s} {n} {line} {out} w t a b e = rw (within-fits s n line out w) at e
+
+pub within-same : {s : Session} {m n line line′ out out′ : ℕ} → m ≡ n → line ≡ line′ → out ≡ out′ → Within s m line out → Within s n line′ out′
+within-same e f g w = record { whole = omega (arith, w .whole); held = w .held; room = omega (arith, w .room) }
+
+-- The lengths of the program's buffers.
+pub record Sized (buffer line out : ℕ) : Type 0 where
+  pub buffers : buffer ≡ 4096
+  pub lines : line ≡ 32
+  pub outs : out ≡ 106496
+
+ready-is : (d : Device) (s : Session) → Ready s ≡ readyWith d → s ≡ record { device = d; held = 0; printed = 0 }
+ready-is d s e = cc
+
+pub ready-within : {d : Device} {s : Session} {r : Start} {buffer line out : ℕ} → r ≡ Ready s → r ≡ readyWith d → Sized buffer line out
+    → Within s buffer line out
+ready-within {d} {s} e f sized =
+    rw (ready-is d s (sym e ∙ f)) (record { whole = sized .lines; held = omega arith; room = omega (arith, sized .buffers, sized .outs) })
+
+pub within-one : {s : Session} {n line line′ out out′ : ℕ} → Within s n line out → 1 ≤ n → line ≡ line′ → out ≡ out′ → Within s 1 line′ out′
+within-one w h f g = record { whole = omega (arith, w .whole); held = w .held; room = omega (arith, w .room) }
