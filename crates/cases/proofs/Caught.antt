@@ -1,0 +1,123 @@
+-- Document 01's impostors are caught, and right answers are not.
+-- Assumes nothing.
+use mathlib.Core.Path.{_≡_, refl, sym, ap, _∙_}
+use mathlib.Core.Option.{Option}
+use mathlib.Core.List.{List, [], _∷_, _++_}
+use Prim.Native.Nat.{ℕ, zero, suc, _≤_, min}
+use native.Mathlib.Omega.{arith}
+use lib.ListN.{length, getD}
+use Rattle.geometry.specs.Pixels.{tabulate, painted, paintedIf}
+use Rattle.geometry.proofs.Tests.{by-bool}
+use Rattle.pixel.specs.Blend.{blendPixel}
+use Rattle.raster.specs.Painters.{rowsFit}
+use Rattle.cursor.specs.Plane.{shapeGood, covers, covered, cursorPixel}
+use Rattle.picture.specs.Picture.{coveredBy, pixelOver, picturePixel, composed}
+use Rattle.order.specs.declared.Cause.{Cause}
+use Rattle.order.specs.declared.Cause.the-variants.{NotOffered, BadOperand, TooLong, BadNext}
+use Rattle.order.specs.declared.End.{End}
+use Rattle.order.specs.declared.End.the-variants.{Drained, Waiting, Fault}
+use Rattle.order.specs.Straight.{endNumber, Turn, ends, exec, Line, beyond, next, steps, straight, whole}
+use Rattle.order.specs.Table.{unless, turnOf}
+use Rattle.order.specs.Claim.{run, spent, standing, ended, Reply, ran, answerNumber, taken, counted, metEnd, met, faulted, first, fed, done, stood, says}
+use Rattle.order.specs.Queue.{fresh, offer, runs, try, act, play}
+use Rattle.order.proofs.QueueLaws.{runs-ends, runs-exec, demand3}
+use Rattle.command.specs.Commands.{kindOf, headWords, sizeOf, headGood, operandsGood, actionOf}
+use Rattle.command.specs.Words.{decoded}
+use Rattle.command.specs.Offered.{commands}
+use Rattle.command.proofs.Laws.{command-laws}
+use Rattle.effect.specs.Effects.{Machine, screenAfter, cursorAfter, marksAfter}
+use Rattle.effect.specs.Effects as E
+use Rattle.ring.specs.declared.Ring.{Ring}
+use Rattle.ring.specs.Acceptance.{nextOf}
+use Rattle.ring.specs.Waiting.{after, ahead, between, words, waiting}
+use Rattle.run.specs.Turns.{placed, nextGood}
+use Rattle.run.specs.Run.{Scene, turnIn, stamped, left, runWords, fitting, runIn}
+use Rattle.adapter.specs.declared.Condition.the-variants.{Running}
+use Rattle.adapter.specs.Device.{sizesGood, modeGood, ringGood, conditionGood, definedGood, made}
+use Rattle.adapter.specs.Run.{lentGood, conditionAfter, busyAfter, runBy, runOf}
+use Rattle.adapter.proofs.RunLaws.{run-by}
+use Rattle.adapter.specs.Answers.{Pictured}
+use Rattle.adapter.specs.Picture.{cursorOver, lengthsGood, pictureOf}
+use Rattle.cases.specs.Cases.{smallest}
+use Rattle.cases.specs.Impostors.{fence, answering, fenceIn, Claimed, RefusesEverything, AlwaysDrained, TouchesNothing, WholeRingAtOnce, CountFromTheAir, RightIsNotCaught}
+use Rattle.cases.specs.Impostors.{NotRefused, OneFence, shows, BareScreen}
+
+module _ (s : Scene) (m : Machine) where
+  -- one command waits behind a FENCE's two appends, and so a run of budget b counts the smaller of b and 1
+  one-waits : (b : ℕ) (r : Reply) (z : Line Machine) (f : Option Cause) → Claimed s m (answering r (fence 7 ++ run b ∷ [])) z f → counted r ≡ min b 1
+  unfolding steps straight whole unless turnOf taken counted faulted first fed done stood says kindOf headWords sizeOf headGood operandsGood decoded commands
+  one-waits b r z f d = ap counted (d .answers (answering r (fence 7)) [] (record { op = run b; reply = r }) refl)
+
+  pub refuses-everything : RefusesEverything s m
+  unfolding counted
+  refuses-everything z f tt d = let n : _≡_ {A = ℕ} 0 1 = one-waits 1 (ran standing 0) z f d in omega arith
+
+  pub always-drained : AlwaysDrained s m
+  unfolding counted
+  always-drained z f tt d = let n : _≡_ {A = ℕ} 0 1 = one-waits 1 (ran (ended Drained) 0) z f d in omega arith
+
+  pub count-from-the-air : CountFromTheAir s m
+  unfolding counted
+  count-from-the-air z f tt d = let n : _≡_ {A = ℕ} 2 1 = one-waits 2 (ran spent 2) z f d in omega arith
+
+  -- after one command the fence is 7, whatever else waits
+  pub touches-nothing : TouchesNothing s m
+  unfolding straight unless turnOf taken counted fed done kindOf headWords sizeOf headGood operandsGood actionOf decoded commands E.done marksAfter
+  touches-nothing zero-before z f same d =
+      let new : fenceIn z ≡ 7 = ap fenceIn (d .same) in
+      let old : fenceIn z ≡ m .marks .fence = ap (λ (x : Machine). x .marks .fence) same in
+      omega arith
+
+  pub whole-ring-at-once : WholeRingAtOnce s m
+  unfolding straight unless turnOf taken counted fed done kindOf headWords sizeOf headGood operandsGood actionOf decoded commands E.done marksAfter
+  whole-ring-at-once z f eight d = let seven : fenceIn z ≡ 7 = ap fenceIn (d .same) in omega arith
+
+  pub right-is-not-caught : RightIsNotCaught s m
+  unfolding play act offer try fresh metEnd met runs unless turnOf kindOf headWords sizeOf headGood operandsGood actionOf decoded commands E.done marksAfter
+  right-is-not-caught caught =
+      caught _ _ refl (demand3 (command-laws (E.done (s .width) (s .rows) (s .framebuffer)) smallest (omega arith)) m (omega arith) (fence 7 ++ run 2 ∷ []))
+
+end-number : (e : End) → endNumber e ≤ 13
+end-number Drained = omega arith
+end-number Waiting = omega arith
+end-number (Fault NotOffered) = omega arith
+end-number (Fault BadOperand) = omega arith
+end-number (Fault TooLong) = omega arith
+end-number (Fault BadNext) = omega arith
+
+-- no turn's answer is 23
+runs-number : {S : Type 0} (turn : S → List ℕ → Turn S) (b : ℕ) (a : Line S) → answerNumber (runs turn b a .answer) ≤ 13
+unfolding runs
+runs-number turn zero a = omega arith
+runs-number {S} turn (suc b) a = go (next turn a) refl (λ n s. runs-number turn b (beyond a n s))
+  where
+    go : (t : Turn S) → next turn a ≡ t → ((n : ℕ) (s : S) → answerNumber (runs turn b (beyond a n s) .answer) ≤ 13) → answerNumber (runs turn (suc b) a .answer) ≤ 13
+    go (ends e) q ih = rw (runs-ends turn b a e q) (end-number e)
+    go (exec n s) q ih = rw (runs-exec turn b a n s q) (ih n s)
+
+run-number : (s : Scene) (g : Ring) (budget : ℕ) (ring : List ℕ) (m : Machine) → answerNumber (runIn s g budget ring m .answer) ≤ 13
+unfolding runIn runWords left
+run-number s g budget ring m =
+    by-bool (fitting g (length ring) (length (m .cursor)))
+    (λ e. rw e (runs-number (turnIn s g (nextOf ring)) budget _))
+    (λ e. rw e (omega arith))
+
+pub not-refused : NotRefused
+unfolding runBy
+not-refused d ring framebuffer screen cursor budget c =
+    rw (run-by d ring framebuffer screen cursor budget (Running (c .place)) (c .well) (c .lent) (c .configured) (c .enabled) (c .fits) (c .running))
+    (run-number _ (c .place) budget ring _)
+
+pub one-fence : OneFence
+unfolding sizesGood modeGood ringGood conditionGood definedGood made lentGood runOf runBy conditionAfter busyAfter runIn runWords left stamped fitting placed nextGood turnIn after ahead between words waiting runs unless turnOf kindOf headWords sizeOf headGood operandsGood actionOf decoded commands E.done screenAfter cursorAfter marksAfter
+one-fence rest framebuffer screen cursor r f s c = rw (r, f, s, c)
+
+-- the blue pixel of the cursor
+pub picture-shown : (rest : List ℕ) → length rest ≡ 4095 → pictureOf shows (0 ∷ []) (0xFF0000FF ∷ rest) (0 ∷ []) ≡ record { answer = 0; output = 255 ∷ [] }
+unfolding sizesGood modeGood conditionGood definedGood made cursorOver lengthsGood pictureOf shapeGood composed rowsFit paintedIf painted tabulate picturePixel coveredBy covered covers pixelOver cursorPixel blendPixel
+picture-shown rest e = rw e
+
+pub bare-screen : BareScreen
+bare-screen rest e q =
+    let n : _≡_ {A = ℕ} 255 0 = ap (λ (o : List ℕ). getD o 0 0) (sym (ap (λ (p : Pictured). p .output) (picture-shown rest e)) ∙ q) in
+    omega arith

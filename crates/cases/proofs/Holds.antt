@@ -1,0 +1,18 @@
+-- Cases 1 to 10 hold, all computed.
+-- Assumes nothing.
+use mathlib.Core.Path.{refl}
+use Rattle.geometry.specs.Pixels.{inRect, inArea, tabulate, painted, paintedIf}
+use Rattle.pixel.specs.RasterOperation.{rasterOp}
+use Rattle.pixel.specs.Blend.{blendPixel}
+use Rattle.raster.specs.Painters.{rowsFit, filled, moves, copied}
+use Rattle.cursor.specs.Plane.{shapeGood, covers}
+use Rattle.order.specs.Table.{unless, turnOf}
+use Rattle.order.specs.Queue.{runs}
+use Rattle.command.specs.Commands.{kindOf, headWords, sizeOf, headGood, operandsGood}
+use Rattle.command.specs.Words.{decoded}
+use Rattle.command.specs.Offered.{commands}
+use Rattle.cases.specs.Cases.{AllEqual, cases}
+
+pub cases-hold : AllEqual cases
+unfolding cases inRect inArea tabulate painted paintedIf rasterOp blendPixel rowsFit filled moves copied shapeGood covers unless turnOf runs kindOf headWords sizeOf headGood operandsGood decoded commands
+cases-hold = (refl, (refl, (refl, (refl, (refl, (refl, (refl, (refl, (refl, (refl, tt))))))))))

@@ -1,0 +1,137 @@
+-- Document 01, "How tight the promises are": "These impostors have to be caught". For each a list of operations with the answers that it gives, a device
+-- or a picture on which it breaks a claim or an equation that the code is held to.
+use Prim.Native.Nat.{ℕ, _*_, _≤_}
+use mathlib.Core.Path.{_≡_}
+use mathlib.Core.Bool.{true, false}
+use mathlib.Core.Option.{Option}
+use mathlib.Core.List.{List, [], _∷_, _++_}
+use lib.Dec.{leb}
+use lib.ListN.{length}
+use Rattle.cursor.specs.declared.Defined.the-variants.{Undefined, Cursor}
+use Rattle.order.specs.declared.Cause.{Cause}
+use Rattle.order.specs.declared.End.the-variants.{Drained}
+use Rattle.order.specs.Straight.{Line}
+use Rattle.order.specs.Table.{turnOf}
+use Rattle.order.specs.Claim.{Op, append, run, spent, standing, ended, Reply, appended, ran, Event, Demand3}
+use Rattle.ring.specs.declared.Ring.{Ring}
+use Rattle.effect.specs.Effects.{Machine}
+use Rattle.run.specs.Run.{Scene, table}
+use Rattle.adapter.specs.declared.Condition.the-variants.{Idle, Running}
+use Rattle.adapter.specs.declared.Device.{Device}
+use Rattle.adapter.specs.Device.{pixelsOf, widthOf, heightOf, freshRegisters, made}
+use Rattle.adapter.specs.Registers.{setMode, setState}
+use Rattle.adapter.specs.Run.{lentGood, runOf}
+use Rattle.adapter.specs.Picture.{pictureOf}
+use Rattle.cases.specs.Cases.{smallest}
+
+-- A guest's FENCE.
+abbrev pub fence : ℕ → List Op
+fence n = append 30 ∷ append n ∷ []
+
+-- Operations with their answers, where each append is taken and each run answers r.
+abbrev pub answering : Reply → List Op → List Event
+answering r [] = []
+answering r (append x ∷ os) = record { op = append x; reply = appended true } ∷ answering r os
+answering r (run b ∷ os) = record { op = run b; reply = r } ∷ answering r os
+
+-- ---- runs in a list of operations, by demand 3
+
+abbrev pub fenceIn : Line Machine → ℕ
+fenceIn z = z .machine .marks .fence
+
+abbrev pub Anything : Line Machine → Type 0
+Anything z = Unit {0}
+
+-- Over document 01's commands and the smallest ring, in any mode with any framebuffer, from any screen, cursor and last fence:
+module _ (s : Scene) (m : Machine) where
+  -- operations with their answers have led to the words waiting and the machine z, and to the standing fault f, as demand 3 claims.
+  abbrev pub Claimed : List Event → Line Machine → Option Cause → Type 0
+  Claimed es z f = Demand3 smallest (turnOf smallest (table s)) m es z f
+
+  -- A run among these operations that answers r and leaves such a state is caught: that is never as demand 3 claims.
+  abbrev pub Caught : List Op → Reply → (Line Machine → Type 0) → Type 0
+  Caught os r Leaves = (z : Line Machine) (f : Option Cause) → Leaves z → Claimed (answering r os) z f → ⊥
+
+  -- "a run that refuses everything": 23 is the one refusal that demand 3 knows; of the others speaks `NotRefused` below.
+  abbrev pub RefusesEverything : Type 0
+  RefusesEverything = Caught (fence 7 ++ run 1 ∷ []) (ran standing 0) Anything
+
+  -- "a run that answers 'drained, 0' to everything"
+  abbrev pub AlwaysDrained : Type 0
+  AlwaysDrained = Caught (fence 7 ++ run 1 ∷ []) (ran (ended Drained) 0) Anything
+
+  -- ".. or touches nothing": it gives the right answer and count, and screen, cursor and fence are the old ones.
+  abbrev pub TouchesNothing : Type 0
+  TouchesNothing = m .marks .fence ≡ 0 → Caught (fence 7 ++ run 1 ∷ []) (ran spent 1) (λ z. z .machine ≡ m)
+
+  -- "a first run of budget 1 that executes the whole ring while later runs only count": it gives the right answer and count, and the fence is 8.
+  abbrev pub WholeRingAtOnce : Type 0
+  WholeRingAtOnce = Caught (fence 7 ++ fence 8 ++ run 1 ∷ []) (ran spent 1) (λ z. fenceIn z ≡ 8)
+
+  -- "a count plucked from the air": 2, where one command waited.
+  abbrev pub CountFromTheAir : Type 0
+  CountFromTheAir = Caught (fence 7 ++ run 2 ∷ []) (ran spent 2) Anything
+
+  -- The right answer is not caught: a run of budget 2 is drained after one command, and the fence is 7.
+  abbrev pub RightIsNotCaught : Type 0
+  RightIsNotCaught = Caught (fence 7 ++ run 2 ∷ []) (ran (ended Drained) 1) (λ z. fenceIn z ≡ 7) → ⊥
+
+-- ---- runs of a device, by `runOf`, to which `adapter::run` is held
+
+-- A device that none of the refusals 20 to 24 concerns.
+pub record CanRun (d : Device) (ring framebuffer screen cursor : List ℕ) : Type 0 where
+  pub well : made d ≡ true
+  pub lent : lentGood d (length ring) (length framebuffer) (length screen) (length cursor) ≡ true
+  pub configured : d .registers .config ≡ true
+  pub enabled : d .registers .enable ≡ true
+  pub fits : leb (widthOf d * heightOf d) (pixelsOf d) ≡ true
+  pub place : Ring
+  pub running : d .condition ≡ Running place
+
+-- "a run that refuses everything": there a run answers 0, 1, 2 or a fault, of any budget.
+abbrev pub NotRefused : Type 0
+NotRefused =
+    (d : Device) (ring framebuffer screen cursor : List ℕ) (budget : ℕ) → CanRun d ring framebuffer screen cursor
+    → runOf d ring framebuffer screen cursor budget .answer ≤ 13
+
+-- A device in the mode 4 by 1, enabled, and configured with the smallest ring; its last fence, and STOP in words.
+abbrev pub device : ℕ → ℕ → Device
+device fence stop = record {
+  sizes = record { memory = 10256; pixels = 4 };
+  registers = setState (setMode freshRegisters 4 1) 0x90000000 true true;
+  plane = record { shown = false; id = 0; x = 0; y = 0 };
+  defined = Undefined;
+  fence = fence;
+  busy = false;
+  condition = Running (record { min = 4; max = 2564; stop = stop });
+}
+
+-- Its ring memory, with ring word 3: FENCE 7 and FENCE 8 wait behind the four ring words.
+abbrev pub twoFences : ℕ → List ℕ → List ℕ
+twoFences stop rest = 16 ∷ 10256 ∷ 32 ∷ stop ∷ 30 ∷ 7 ∷ 30 ∷ 8 ∷ rest
+
+-- A run of budget 1 executes FENCE 7 and no more: answer 2, count 1, the last fence is 7, STOP and ring word 3 are two words on, all else is as it was.
+-- No impostor gives that: it is not refused, not drained, not untouched, not the whole ring and no other count.
+abbrev pub OneFence : Type 0
+OneFence =
+    (rest framebuffer screen cursor : List ℕ) → length rest ≡ 2556 → length framebuffer ≡ 4 → length screen ≡ 4 → length cursor ≡ 4096
+    → runOf (device 0 4) (twoFences 16 rest) framebuffer screen cursor 1
+    ≡ record { answer = 2; count = 1; device = device 7 6; ring = twoFences 24 rest; screen = screen; cursor = cursor }
+
+-- ---- pictures
+
+-- A device of one pixel, over which its cursor, of one pixel too, is shown.
+abbrev pub shows : Device
+shows = record {
+  sizes = record { memory = 10256; pixels = 1 };
+  registers = setMode freshRegisters 1 1;
+  plane = record { shown = true; id = 1; x = 0; y = 0 };
+  defined = Cursor (record { id = 1; hotx = 0; hoty = 0; w = 1; h = 1 });
+  fence = 0;
+  busy = false;
+  condition = Idle;
+}
+
+-- "a picture that is always the bare screen": over a black screen the cursor's pixel is a full blue, and the picture is not the screen.
+abbrev pub BareScreen : Type 0
+BareScreen = (rest : List ℕ) → length rest ≡ 4095 → (pictureOf shows (0 ∷ []) (0xFF0000FF ∷ rest) (0 ∷ []) .output ≡ 0 ∷ []) → ⊥
