@@ -255,15 +255,16 @@ module _ (s : Scene) (screen : List ℕ) (wide : 0 < s .width) where
       let same : does a (take k w) m ≡ t = cc in
       rw (sym same) (sound-done m a k w (found cap w a k q) (good-turn cap w a k q) h)
 
-  -- an executed turn of a run keeps a sound machine
+  -- an executed turn keeps a sound machine
+  pub sound-exec : (cap : ℕ) (m t : Machine) (w : List ℕ) (n : ℕ) → turnOf cap (table s) m w ≡ exec n t → Right m → Right t
+  sound-exec cap m t w n r h = sound-as cap m t w n (turnWords cap w) refl (sym (turn-words does cap m w) ∙ r) h
+
+  -- and so does one of a run
   pub sound-turn : (g : Ring) (after : ℕ) (m t : Machine) (w : List ℕ) (n : ℕ) → turnIn s g after m w ≡ exec n t → Right m → Right t
   unfolding turnIn unless
   sound-turn g after m t w n q h =
       by-bool (nextGood g after)
-      (λ y.
-      let cap : ℕ = carried (g .min) (g .max) in
-      let r : turnOf cap (table s) m w ≡ exec n t = rw y at q in
-      sound-as cap m t w n (turnWords cap w) refl (sym (turn-words does cap m w) ∙ r) h)
+      (λ y. sound-exec (carried (g .min) (g .max)) m t w n (rw y at q) h)
       (λ f. let r : ends (Fault BadNext) ≡ exec n t = rw f at q in let z : _≡_ {A = ℕ} 0 1 = cc in absurd (omega arith))
 
 -- no turn executes where NEXT_CMD is unusable

@@ -3,7 +3,7 @@
 use mathlib.Core.Path.{_≡_, refl, ap₂}
 use mathlib.Core.Bool.{true}
 use mathlib.Core.List.{List, [], _∷_, _++_, map}
-use Prim.Native.Nat.{ℕ, _+_, _*_, _≤_}
+use Prim.Native.Nat.{ℕ, _+_, _≤_}
 use native.Mathlib.Omega.{arith}
 use native.Mathlib.Nat.{add-zero, zero-add}
 use lib.ListN.{length, length-append}
@@ -14,7 +14,6 @@ use Rattle.order.specs.Queue.{Queue, Played, fresh, act, play}
 use Rattle.order.proofs.Laws.{Laws}
 use Rattle.order.proofs.QueueLaws.{play-ops, demand3}
 use Rattle.ring.specs.declared.Ring.{Ring}
-use Rattle.ring.specs.Acceptance.{stopOf}
 use Rattle.ring.specs.Waiting.{carried}
 use Rattle.command.proofs.Laws.{command-laws}
 use Rattle.effect.specs.Effects.{Machine}

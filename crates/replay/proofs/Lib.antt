@@ -1,9 +1,9 @@
-pub mod Laws
-pub mod Places
 pub mod Runs
+pub mod Places
+pub mod KeptByRun
 pub mod Steps
+pub mod Laws
 pub mod StartTest
 pub mod Walks
-pub mod KeptByRun
 pub mod Starts
 pub mod NoHarm

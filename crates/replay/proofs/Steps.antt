@@ -39,7 +39,8 @@ use Rattle.adapter.specs.Run.{RunOutcome, lentGood, conditionAfter, ran, runBy,
 use Rattle.adapter.proofs.Laws.{well-formed}
 use Rattle.replay.specs.Calls.{World, withRing, Outcome, append, run, perform}
 use Rattle.replay.specs.Demand.{ringAtStart, isStart, sceneOf, turnIn, wordsIn, machineIn, lineIn, standsIn, wordsOn, numbersOf}
-use Rattle.replay.proofs.Runs.{Leaves, run-leaves, Sound, turn-sound}
+use Rattle.replay.proofs.Runs.{Leaves, run-leaves}
+use Rattle.replay.proofs.KeptByRun.{Sound, sound-exec}
 use Rattle.replay.proofs.Places.{on-add, on-ahead, Holds, InWords, in-words, held-in, passed-by}
 
 -- ---- the definitions of a run, where nothing is refused
@@ -103,6 +104,8 @@ pub record Started (w₀ : World) : Type 0 where
   pub enable : enabledOf (w₀ .device) ≡ true
   pub fits-screen : leb (widthOf (w₀ .device) * heightOf (w₀ .device)) (pixelsOf (w₀ .device)) ≡ true
   pub framebuffer : length (w₀ .lent .framebuffer) ≡ pixelsOf (w₀ .device)
+  pub screen : length (w₀ .lent .screen) ≡ pixelsOf (w₀ .device)
+  pub wide : 1 ≤ widthOf (w₀ .device)
   pub small : memoryOf (w₀ .device) ≤ 2097152
 
 module _ (g : Ring) (w₀ : World) where
@@ -112,13 +115,17 @@ module _ (g : Ring) (w₀ : World) where
   abbrev turn : Machine → List ℕ → Turn Machine
   turn = turnIn w₀ g
 
+  -- what every executed command keeps of the machine
+  abbrev Right : Machine → Type 0
+  Right = Sound (widthOf (w₀ .device) * heightOf (w₀ .device)) (w₀ .lent .screen)
+
   -- After k words were taken in all, the world w shows the queue q.
   pub record Shows (k : ℕ) (w : World) (q : Queue Machine) : Type 0 where
     pub sizes : w .device .sizes ≡ w₀ .device .sizes
     pub registers : w .device .registers ≡ w₀ .device .registers
     pub framebuffer : w .lent .framebuffer ≡ w₀ .lent .framebuffer
     pub ring-length : length (w .lent .ring) ≡ memoryOf (w₀ .device) / 4
-    pub sound : Sound (pixelsOf (w₀ .device)) (machineIn w)
+    pub sound : Right (machineIn w)
     pub holds : Holds (g .min) (g .max) (w .lent .ring)
     pub line : lineIn g w ≡ q .line
     pub condition : conditionOf (w .device) ≡ conditionFor (q .stands) (stopAt g (stopOf (w .lent .ring) / 4))
@@ -212,9 +219,6 @@ module _ (g : Ring) (w₀ : World) where
     abbrev now : Ring
     now = stopAt g (stopOf memory / 4)
 
-    abbrev pixels : ℕ
-    pixels = pixelsOf (w₀ .device)
-
     places : InWords (g .min) (g .max) memory
     places = in-words (g .min) (g .max) memory (s .holds)
 
@@ -245,7 +249,7 @@ module _ (g : Ring) (w₀ : World) where
           s .framebuffer,
           eq-eqb _ _ (s .ring-length),
           eq-eqb _ _ (st .framebuffer),
-          eq-eqb _ _ (s .sound .screen),
+          eq-eqb _ _ (s .sound .same-length ∙ st .screen),
           eq-eqb _ _ (s .sound .cursor),
         )
 
@@ -296,7 +300,7 @@ module _ (g : Ring) (w₀ : World) where
       lent = record { ring = o .ring; framebuffer = w .lent .framebuffer; screen = o .screen; cursor = o .cursor; output = w .lent .output };
     }
 
-    left-shows : (r : Ran Machine) → Leaves (Sound pixels) (q .line) r
+    left-shows : (r : Ran Machine) → Leaves Right (q .line) r
         → Shows k (after (ran (w .device) (left now memory (q .line .words) r))) (settle r .queue)
     unfolding left stamped
     left-shows r l =
@@ -337,8 +341,8 @@ module _ (g : Ring) (w₀ : World) where
     laws : Laws cap turn
     laws = command-laws _ cap (omega (arith, places))
 
-    sound-line : Sound pixels (q .line .machine)
-    sound-line = subst (λ (l : Line Machine). Sound pixels (l .machine)) (s .line) (s .sound)
+    sound-line : Right (q .line .machine)
+    sound-line = subst (λ (l : Line Machine). Right (l .machine)) (s .line) (s .sound)
 
     run-by : (b : ℕ) (f : Option Cause) → q .stands ≡ f
         → Step k (C.run b) (outcome (runBy (w .device) memory (w .lent .framebuffer) (w .lent .screen) (w .lent .cursor) b (conditionFor f now))) (try turn f b q)
@@ -346,7 +350,7 @@ module _ (g : Ring) (w₀ : World) where
     run-by b (some c) e = record { told = refl; shows = rw add-zero s }
     run-by b none e =
         subst (λ (o : R.Outcome). Step k (C.run b) (outcome (ran (w .device) o)) (settle (runs turn b (q .line)))) (sym (runs-so b))
-        (record { told = refl; shows = rw add-zero (left-shows (runs turn b (q .line)) (run-leaves laws (Sound pixels) (turn-sound (sceneOf w₀) cap pixels) b (q .line) sound-line)) })
+        (record { told = refl; shows = rw add-zero (left-shows (runs turn b (q .line)) (run-leaves laws Right (sound-exec (sceneOf w₀) (w₀ .lent .screen) (st .wide) cap) b (q .line) sound-line)) })
 
     pub run-step : (b : ℕ) → Step k (C.run b) (perform (run b) w) (act cap turn (C.run b) q)
     unfolding perform act
@@ -412,6 +416,8 @@ started w₀ e =
       enable = t .enable;
       fits-screen = t .fits-screen;
       framebuffer = lent-lengths d _ _ _ _ (t .lent) .1;
+      screen = lent-lengths d _ _ _ _ (t .lent) .2;
+      wide = well-formed d (t .there) .width-low;
       small = well-formed d (t .there) .memory-high;
     }
 
@@ -435,7 +441,7 @@ start-shows g w₀ e q =
       registers = refl;
       framebuffer = refl;
       ring-length = lengths .0;
-      sound = record { screen = lengths .2; cursor = lengths .3; defined = well-formed d (t .there) .defined };
+      sound = record { same-length = refl; beyond-mode = λ k l. refl; cursor = lengths .3; defined = well-formed d (t .there) .defined };
       holds = r .0;
       line = λ i. record { words = waits-none (w₀ .lent .ring) (g .min) (g .max) _ _ (ap (λ x. x / 4) (sym (r .2))) i; machine = machineIn w₀ };
       condition = q ∙ (λ i. Running (stopAt g (stop i)));

@@ -12,7 +12,6 @@ use Rattle.geometry.proofs.Tests.{both}
 use Rattle.order.specs.declared.End.the-variants.{Waiting, Fault}
 use Rattle.order.specs.declared.Cause.the-variants.{NotOffered}
 use Rattle.ring.specs.declared.Ring.{Ring}
-use Rattle.ring.specs.Waiting.{between}
 use Rattle.ring.proofs.WaitingLaws.{length-words, between-carried}
 use Rattle.command.specs.declared.Kind.{Kind}
 use Rattle.command.specs.declared.Turn.the-variants.{Ends}

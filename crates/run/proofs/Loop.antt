@@ -1,18 +1,18 @@
 -- The turns of a run so far, and what is left of it.
 -- Assumes nothing.
-use mathlib.Core.Path.{_≡_, refl, sym, ap, ap₂, subst, _∙_}
-use mathlib.Core.Bool.{Bool, true, false, cond}
+use mathlib.Core.Path.{_≡_, refl, sym, ap, ap₂, _∙_}
+use mathlib.Core.Bool.{cond}
 use mathlib.Core.List.{List}
-use Prim.Native.Nat.{ℕ, zero, suc, _+_, _-_, _*_, _≤_, _<_}
+use Prim.Native.Nat.{ℕ, suc, _+_, _-_, _*_, _≤_, _<_}
 use native.Mathlib.Omega.{arith}
 use native.Mathlib.Nat.{zero-add, add-zero}
 use native.Mathlib.Numerals.{add-one}
 use lib.Seq.{set-set, drop-drop}
 use lib.Dec.{eqb, ltb}
-use lib.ListN.{length, getD, take, drop, set, length-drop, length-set}
+use lib.ListN.{length, take, drop, length-drop, length-set}
 use borrow.Author.Tests.{ltb-true, ltb-false, lt-ltb, le-ltb, ne-eqb}
 use Rattle.order.specs.declared.End.{End}
-use Rattle.order.specs.Straight.{Line, ends, exec, beyond, next}
+use Rattle.order.specs.Straight.{Line, ends}
 use Rattle.order.specs.Straight as O
 use Rattle.order.specs.Table.{turnOf}
 use Rattle.order.specs.Claim as Claim
@@ -29,8 +29,8 @@ use Rattle.command.proofs.Laws.{asTurn, turn-words}
 use Rattle.effect.specs.Effects.{Machine, screenAfter, cursorAfter, marksAfter, done}
 use Rattle.run.specs.declared.View.{View}
 use Rattle.run.specs.Turns.{wordsIn, InView, passedIn, Ready}
-use Rattle.run.specs.Run.{Scene, table, placeOf, passed, stamped, Outcome, left, runWords}
-use Rattle.run.proofs.Found.{Found, found}
+use Rattle.run.specs.Run.{Scene, table, placeOf, passed, stamped, left, runWords}
+use Rattle.run.proofs.Found.{found}
 
 -- what an action does in a scene
 abbrev does : Scene → Action → List ℕ → Machine → Machine

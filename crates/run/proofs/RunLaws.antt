@@ -23,8 +23,8 @@ use Rattle.ring.proofs.WaitingLaws.{ahead-zero}
 use Rattle.effect.specs.Effects.{Machine}
 use Rattle.run.specs.declared.View.{View}
 use Rattle.run.specs.Turns.{InView, wordsIn, viewOf, placed, nextGood}
-use Rattle.run.specs.Run.{Scene, table, placeOf, turnIn, Outcome, left, runWords, lost, fitting, runIn}
-use Rattle.run.proofs.Laws.{Placed, placed-says, next-says, in-view}
+use Rattle.run.specs.Run.{Scene, table, placeOf, turnIn, left, runWords, lost, fitting, runIn}
+use Rattle.run.proofs.Laws.{placed-says, next-says, in-view}
 
 -- where the tests of lengths fail
 pub run-unfit : (s : Scene) (g : Ring) (budget : ℕ) (ring : List ℕ) (m : Machine) → fitting g (length ring) (length (m .cursor)) ≡ false

@@ -1,8 +1,7 @@
 -- `run::bring_cursor` meets its contract.
 -- Assumes nothing.
-use Prim.Native.Nat.{ℕ, _+_, _*_, _≤_}
+use Prim.Native.Nat.{ℕ, _*_, _≤_}
 use native.Mathlib.Nat.{mul-le-mul}
-use native.Mathlib.Omega.{arith}
 use borrow.Author.Needs.{needs}
 use Rattle.effect.specs.Effects.{cursorAfter}
 use Rattle.run.proofs.bring_cursor.Statement.{statement}

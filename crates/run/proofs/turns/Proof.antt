@@ -1,14 +1,11 @@
 -- `run::turns` meets its contract.
 -- Assumes nothing.
-use mathlib.Core.Path.{_≡_, refl, sym, ap, _∙_}
+use mathlib.Core.Path.{_≡_, refl, sym, _∙_}
 use Prim.Native.Nat.{_-_}
 use native.Mathlib.Omega.{arith}
 use borrow.Author.Needs.{needs}
 use lib.ListN.{length, length-set}
-use Rattle.order.specs.Claim as Claim
-use Rattle.effect.specs.Effects.{Machine}
-use Rattle.run.specs.Run.{scene, machine, placeOf, stamped}
-use Rattle.run.proofs.Found.{found}
+use Rattle.run.specs.Run.{scene, machine, stamped}
 use Rattle.run.proofs.Loop.{Going, going-start, going-ends, going-spent, going-left, going-again, head-there, in-view, in-place, can-execute, can-pass, stop-small}
 use Rattle.run.proofs.turns.Statement.{statement}
 use Rattle.run.proofs.turns.Tie as tie
