@@ -1,0 +1,3 @@
+pub mod Reasons
+pub mod Rules
+pub mod Demand2
