@@ -1,6 +1,7 @@
 // Speed of a run: streams of small commands with a large budget, run by our device and by a device in plain C, on the same memories.
 // A Markdown table of the time for one command, ours and the C device's, and of the same rectangles painted directly, with nothing parsed.
-// First some thousand small hostile rings are run by both devices and compared whole; in the timed runs result, STOP and screen are.
+// First some thousand small hostile rings are run by both devices and compared whole. Before a stream is timed, each contender runs it from
+// one screen and has to end with the same screen; then all run in turn, and the least time of all rounds counts.
 // The exit status is 1 if anything differs, and 0 otherwise: a missed target is only marked in the table.
 //
 //   streams [ROUNDS]        (default 50)
@@ -32,14 +33,19 @@ struct rect {
 
 static uint32_t smaller(uint32_t a, uint32_t b) { return a < b ? a : b; }
 
-// The part of x, y, w, h inside the mode; empty where w or h is 0.
+// The part of x, y, w, h inside the mode; empty where w or h is 0. Nothing is added, so nothing wraps.
 static struct rect cut(const uint32_t *a, uint32_t width, uint32_t height) {
     struct rect r = {a[0], a[1], 0, 0};
     if (r.x < width && r.y < height) r.w = smaller(a[2], width - r.x), r.h = smaller(a[3], height - r.y);
     return r;
 }
 
+// The quickest way for each width: pixman only from some 32 pixels on.
 static void fill_rows(uint32_t *d, size_t pitch, size_t w, size_t h, uint32_t colour) {
+    if (w >= 32) {
+        pixman_fill(d, (int)pitch, 32, 0, 0, (int)w, (int)h, colour);
+        return;
+    }
     if (w == 1) {
         for (; h > 0; h--, d += pitch) *d = colour;
         return;
@@ -122,68 +128,90 @@ static void words_from(const struct peer *p, uint32_t at, uint32_t *out, uint32_
     memcpy(out + first, p->ring + p->min, (n - first) * sizeof *out);
 }
 
-static void peer_cursor(struct peer *p, const uint32_t *a, uint32_t pixels) {
-    uint32_t at = p->stop + 6;
+static void peer_cursor(struct peer *p, uint32_t stop, const uint32_t *a) {
+    uint32_t at = stop + 6;
     if (at >= p->max) at -= p->max - p->min;
-    words_from(p, at, p->cursor, pixels);
+    words_from(p, at, p->cursor, a[3] * a[4]);
     p->cursor_id = a[0], p->cursor_hotx = a[1], p->cursor_hoty = a[2], p->cursor_w = a[3], p->cursor_h = a[4];
 }
 
 static bool cursor_head_good(const uint32_t *a) { return a[3] - 1 < 64 && a[4] - 1 < 64 && a[1] < a[3] && a[2] < a[4]; }
 
-// The words of a command, or of its head; 0 for a command that is not offered.
-static const uint8_t head_words[] = {[UPDATE] = 5,  [FILL] = 6,           [COPY] = 7,  [ROP_FILL] = 7, [ROP_COPY] = 8,
-                                     [CURSOR] = 6,  [UPDATE_VERBOSE] = 6, [FENCE] = 2, [ESCAPE] = 3};
-
 static uint64_t result(uint32_t answer, uint32_t count) { return (uint64_t)answer << 32 | count; }
 
+// A command's first n words, in the ring, or in `local` where they wrap.
+static const uint32_t *head(const struct peer *p, uint32_t stop, uint32_t n, uint32_t *local) {
+    if (p->max - stop >= n) return p->ring + stop;
+    words_from(p, stop, local, n);
+    return local;
+}
+
 static uint64_t peer_commands(struct peer *p, uint32_t budget) {
-    uint32_t size = p->max - p->min;
+    uint32_t *const ring = p->ring;
+    const uint32_t min = p->min, max = p->max, size = max - min;
+    uint32_t stop = p->stop, local[8];
     for (uint32_t count = 0;; count++) {
         if (count == budget) return result(2, count);
-        uint32_t next = p->ring[NEXT_CMD];
-        if (next % 4 || next / 4 < p->min || next / 4 >= p->max) return result(13, count);
-        next /= 4;
-        if (next == p->stop) return result(0, count);
-        uint32_t waiting = next > p->stop ? next - p->stop : next + size - p->stop;
-        uint32_t number = p->ring[p->stop];
-        uint32_t head = number < sizeof head_words ? head_words[number] : 0;
-        if (!head) return result(10, count);
-        if (waiting < head) return result(1, count);
-
-        uint32_t local[8];
-        const uint32_t *a = p->ring + p->stop;
-        if (p->max - p->stop < head) words_from(p, p->stop, local, head), a = local;
-        a++;
-        uint64_t words = head;
-        if (number == CURSOR) {
-            if (!cursor_head_good(a)) return result(11, count);
-            words += a[3] * a[4];
-        } else if (number == ESCAPE) {
-            words += ((uint64_t)a[1] + 3) / 4;
-        }
-        if (words > size - 1) return result(12, count);
-        if (waiting < words) return result(1, count);
-
-        switch (number) {
+        uint32_t next = ring[NEXT_CMD] / 4;
+        if (ring[NEXT_CMD] % 4 || next < min || next >= max) return result(13, count);
+        if (next == stop) return result(0, count);
+        uint32_t waiting = next > stop ? next - stop : next + size - stop;
+        const uint32_t *a;
+        uint64_t words;
+        switch (ring[stop]) {
         case UPDATE:
-        case UPDATE_VERBOSE: peer_update(p, a); break;
-        case FILL: peer_fill(p, a, ROP_PLAIN); break;
-        case COPY: peer_copy(p, a, ROP_PLAIN); break;
+            if (waiting < (words = 5)) return result(1, count);
+            peer_update(p, head(p, stop, 5, local) + 1);
+            break;
+        case FILL:
+            if (waiting < (words = 6)) return result(1, count);
+            peer_fill(p, head(p, stop, 6, local) + 1, ROP_PLAIN);
+            break;
+        case COPY:
+            if (waiting < (words = 7)) return result(1, count);
+            peer_copy(p, head(p, stop, 7, local) + 1, ROP_PLAIN);
+            break;
         case ROP_FILL:
-            if (a[5] > 15) return result(11, count);
-            peer_fill(p, a, a[5]);
+            if (waiting < (words = 7)) return result(1, count);
+            a = head(p, stop, 7, local);
+            if (a[6] > 15) return result(11, count);
+            peer_fill(p, a + 1, a[6]);
             break;
         case ROP_COPY:
-            if (a[6] > 15) return result(11, count);
-            peer_copy(p, a, a[6]);
+            if (waiting < (words = 8)) return result(1, count);
+            a = head(p, stop, 8, local);
+            if (a[7] > 15) return result(11, count);
+            peer_copy(p, a + 1, a[7]);
             break;
-        case CURSOR: peer_cursor(p, a, a[3] * a[4]); break;
-        case FENCE: p->fence = a[0]; break;
+        case CURSOR:
+            if (waiting < 6) return result(1, count);
+            a = head(p, stop, 6, local);
+            if (!cursor_head_good(a + 1)) return result(11, count);
+            words = 6 + a[4] * a[5];
+            if (words > size - 1) return result(12, count);
+            if (waiting < words) return result(1, count);
+            peer_cursor(p, stop, a + 1);
+            break;
+        case UPDATE_VERBOSE:
+            if (waiting < (words = 6)) return result(1, count);
+            peer_update(p, head(p, stop, 6, local) + 1);
+            break;
+        case FENCE:
+            if (waiting < (words = 2)) return result(1, count);
+            p->fence = head(p, stop, 2, local)[1];
+            break;
+        case ESCAPE:
+            if (waiting < 3) return result(1, count);
+            words = 3 + ((uint64_t)head(p, stop, 3, local)[2] + 3) / 4;
+            if (words > size - 1) return result(12, count);
+            if (waiting < words) return result(1, count);
+            break;
+        default: return result(10, count);
         }
-        p->stop += (uint32_t)words;
-        if (p->stop >= p->max) p->stop -= size;
-        p->ring[STOP] = p->stop * 4;
+        stop += (uint32_t)words;
+        if (stop >= max) stop -= size;
+        p->stop = stop;
+        ring[STOP] = stop * 4;
     }
 }
 
@@ -242,7 +270,8 @@ static void put_hostile_command(uint32_t *ring, uint32_t *at, uint32_t width, ui
     if (number == UPDATE_VERBOSE) a[n++] = random_word();
     if (number == ESCAPE) {
         data = (uint32_t)rand() % 20;
-        a[n++] = random_word(), a[n++] = rand() % 50 == 0 ? random_number(10240) : data * 4 - (data ? (uint32_t)rand() % 4 : 0);
+        a[n++] = random_word(), a[n++] = data * 4 - (data ? (uint32_t)rand() % 4 : 0);
+        if (rand() % 50 == 0) a[1] = rand() % 2 ? 10220 + (uint32_t)rand() % 10 : random_number(10240); // the ring carries up to 10,224
     }
     if (number == CURSOR) {
         uint32_t w = 1 + (uint32_t)rand() % 12, h = 1 + (uint32_t)rand() % 12;
@@ -297,7 +326,7 @@ enum { WIDTH = 1920, HEIGHT = 1080, PIXELS = WIDTH * HEIGHT };
 enum { RING_WORDS = 2097152 / 4, SIDE = 16, MOST_COMMANDS = RING_WORDS / 2 };
 
 static uint32_t *ring, *framebuffer, *screen, *cursor;
-static uint32_t *old_screen, *first_screen; // before a run, and after the first
+static uint32_t *old_screen, *first_screen; // for the check: before each contender's run, and after the first one's
 
 // One command as the direct rows paint it: already cut to the mode.
 struct job {
@@ -392,29 +421,40 @@ static double now_ns(void) {
     return (double)t.tv_sec * 1e9 + (double)t.tv_nsec;
 }
 
-// Runs one contender from the same start. The devices have to consume every command, and all have to leave the same screen.
-static bool time_one(int c, bool is_first, double *best) {
-    memcpy(screen, old_screen, PIXELS * sizeof *screen);
+// Runs one contender from the stream's start; a device has to consume every command.
+static bool run_stream(int c) {
     ring[STOP] = start_of_stream() * 4;
-    double start = now_ns();
     uint64_t ended = contender[c]();
-    double t = (now_ns() - start) / (double)job_count;
-    if (t < *best) *best = t;
-    if (is_first) memcpy(first_screen, screen, PIXELS * sizeof *screen);
     bool parses = c < 2;
-    if (parses && (ended != result(0, (uint32_t)job_count) || ring[STOP] != ring[NEXT_CMD])) return false;
-    return !memcmp(first_screen, screen, PIXELS * sizeof *screen);
+    return !parses || (ended == result(0, (uint32_t)job_count) && ring[STOP] == ring[NEXT_CMD]);
+}
+
+// Whether all contenders, from one screen, end with one screen.
+static bool all_agree(void) {
+    for (int c = 0; c < CONTENDERS; c++) {
+        memcpy(screen, old_screen, PIXELS * sizeof *screen);
+        if (!run_stream(c)) return false;
+        if (c == 0) memcpy(first_screen, screen, PIXELS * sizeof *screen);
+        if (memcmp(first_screen, screen, PIXELS * sizeof *screen)) return false;
+    }
+    return true;
 }
 
 static bool measure(enum kind kind, int rounds) {
     double best[CONTENDERS] = {1e18, 1e18, 1e18, 1e18};
     make_stream(kind);
-    for (int round = 0; round < rounds; round++) {
+    bool agree = all_agree();
+    for (int round = 0; agree && round < rounds; round++) {
         for (int c = 0; c < CONTENDERS; c++) {
-            if (time_one(c, round == 0 && c == 0, &best[c])) continue;
-            printf("MISMATCH: %s, contender %d\n", kind_name[kind], c);
-            return false;
+            double start = now_ns();
+            agree = run_stream(c) && agree;
+            double t = (now_ns() - start) / (double)job_count;
+            if (t < best[c]) best[c] = t;
         }
+    }
+    if (!agree) {
+        printf("MISMATCH: %s\n", kind_name[kind]);
+        return false;
     }
     double ratio = best[0] / best[1];
     printf("| %s | %zu | %.1f | %.1f | %.2f | %.2f%s |", kind_name[kind], job_count, best[0], best[1], ratio, TARGET,
