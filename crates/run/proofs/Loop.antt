@@ -26,10 +26,12 @@ use Rattle.command.specs.declared.Turn.{Turn}
 use Rattle.command.specs.declared.Turn.the-variants.{Ends, Executes}
 use Rattle.command.specs.Words.{turnWords}
 use Rattle.command.proofs.Laws.{asTurn, turn-words}
+use Rattle.cursor.specs.declared.Defined.{Defined}
+use Rattle.effect.specs.declared.Marks.{Marks}
 use Rattle.effect.specs.Effects.{Machine, screenAfter, cursorAfter, marksAfter, done}
 use Rattle.run.specs.declared.View.{View}
 use Rattle.run.specs.Turns.{wordsIn, InView, passedIn, Ready}
-use Rattle.run.specs.Run.{Scene, table, placeOf, passed, stamped, left, runWords}
+use Rattle.run.specs.Run.{Scene, machine, table, placeOf, passed, stamped, left, runWords}
 use Rattle.run.proofs.Found.{found}
 
 -- what an action does in a scene
@@ -89,6 +91,19 @@ done-own s a n w m own = λ i. record {
   cursor = own (m .cursor) i;
   marks = marksAfter a (m .marks);
 }
+
+abbrev pub marked : ℕ → Defined → Marks
+marked fence defined = record { fence = fence; defined = defined }
+
+-- the parts of what an action does
+all-done : (s : Scene) (a : Action) (w : List ℕ) (m : Machine) (marks : Marks) (screen cursor : List ℕ)
+    → screen ≡ screenAfter (s .width) (s .rows) (s .framebuffer) a (m .screen) → cursor ≡ cursorAfter a w (m .cursor) → marks ≡ marksAfter a (m .marks)
+    → machine marks screen cursor ≡ does s a w m
+unfolding done
+all-done s a w m marks screen cursor p q r = λ i. record { screen = p i; cursor = q i; marks = r i }
+
+pub by-action : {a b : Action} {n : Marks} (m : Marks) → a ≡ b → n ≡ marksAfter b m → n ≡ marksAfter a m
+by-action {a} {b} {n} m e q = rw e q
 
 same-view : (v : View) (a n : ℕ) → a ≡ v .at → n ≡ v .n → v ≡ record { lo = v .lo; hi = v .hi; at = a; n = n }
 same-view v a n p q = λ i. record { lo = v .lo; hi = v .hi; at = sym p i; n = sym q i }
@@ -201,6 +216,12 @@ module _ {s : Scene} {budget : ℕ} {v₀ : View} {ring₀ : List ℕ} {m₀ : M
       → (to : View) (after : Machine) → to ≡ passedIn v n → after ≡ does s a (wordsIn ring v) m
       → Going s budget v₀ ring₀ m₀ to (stamped (placeOf to) ring) after (count + 1)
   going-again a n h q to after p r = rw (p, r, add-one count) (going-on a n h q)
+
+  pub going-more : (a : Action) (n : ℕ) → count < budget → turnWords (carried (v .lo) (v .hi)) (wordsIn ring v) ≡ Executes a n
+      → (to : View) (marks : Marks) (screen cursor : List ℕ) → to ≡ passedIn v n → screen ≡ screenAfter (s .width) (s .rows) (s .framebuffer) a (m .screen)
+      → cursor ≡ cursorAfter a (wordsIn ring v) (m .cursor) → marks ≡ marksAfter a (m .marks)
+      → Going s budget v₀ ring₀ m₀ to (stamped (placeOf to) ring) (machine marks screen cursor) (count + 1)
+  going-more a n h q to marks screen cursor p e f r = going-again a n h q to _ p (all-done s a (wordsIn ring v) m marks screen cursor e f r)
 
   -- what executing it asks for
   pub can-execute : (a : Action) (n : ℕ) → turnWords (carried (v .lo) (v .hi)) (wordsIn ring v) ≡ Executes a n → Ready a (v .n)

@@ -14,6 +14,7 @@ use Rattle.order.specs.Queue as Queue
 use Rattle.ring.specs.declared.Ring.{Ring}
 use Rattle.ring.specs.Acceptance.{nextOf}
 use Rattle.ring.specs.Waiting.{ahead, waiting, carried}
+use Rattle.cursor.specs.declared.Defined.{Defined}
 use Rattle.command.specs.Offered.{commands}
 use Rattle.effect.specs.declared.Marks.{Marks}
 use Rattle.effect.specs.Effects.{Machine, done}
@@ -74,6 +75,14 @@ outcome r ring screen cursor = record {
   machine = machine (r .marks) screen cursor;
 }
 
+-- The remembered ring of a view.
+abbrev pub placeOf : View → Ring
+placeOf v = record { min = v .lo; max = v .hi; stop = v .at }
+
+-- What the code gives that ended at a view.
+abbrev pub ranTo : View → Answer → ℕ → ℕ → Defined → Ran
+ranTo v answer count fence defined = record { answer = answer; count = count; ring = placeOf v; marks = record { fence = fence; defined = defined } }
+
 -- STOP has passed the words that turns dropped. "The run changes no other ring word, and none if it consumed nothing."
 unfoldable pub left : Ring → List ℕ → List ℕ → Queue.Ran Machine → Outcome
 left g ring words r =
@@ -89,10 +98,6 @@ left g ring words r =
 -- A run of all turns on these words.
 unfoldable pub runWords : (Machine → List ℕ → O.Turn Machine) → Ring → ℕ → List ℕ → List ℕ → Machine → Outcome
 runWords turn g budget ring words m = left g ring words (Queue.runs turn budget (record { words = words; machine = m }))
-
--- The remembered ring of a view.
-abbrev pub placeOf : View → Ring
-placeOf v = record { min = v .lo; max = v .hi; stop = v .at }
 
 -- The answer where NEXT_CMD is unusable: "budget used up: 2" comes before 13.
 unfoldable pub lost : ℕ → Claim.Answer

@@ -1,9 +1,9 @@
 // A run: commands out of the ring, one turn after the other, until the budget is spent or a turn ends it.
 use command::Action;
-use command::Command;
 use command::Kind;
 use command::Source;
 use command::Turn;
+use cursor::Defined;
 use cursor::Shape;
 use effect::Marks;
 use geometry::Rect;
@@ -16,10 +16,12 @@ ghost use mathlib.Core.List.{_++_};
 ghost use lib.ListN.{length, getD, take, drop};
 ghost use Rattle.order.specs.Table.{turnOf};
 ghost use Rattle.ring.specs.Waiting.{between, carried};
-ghost use Rattle.command.specs.Words.{rectAt, sourceAt, shapeAt, decoded, turnWords};
-ghost use Rattle.effect.specs.Effects.{cursorAfter, done};
+ghost use Rattle.command.specs.declared.Command.the-variants.{DefineAlphaCursor, Escape};
+ghost use Rattle.command.specs.Words.{turnWords};
+ghost use Rattle.effect.specs.Effects.{screenAfter, cursorAfter};
 ghost use Rattle.run.specs.Turns.{InView, wordsIn, passedIn, viewOf, Ready, placed, nextGood};
-ghost use Rattle.run.specs.Run.{scene, machine, table, placeOf, outcome, runWords, fitting, lost, answerOf, runIn};
+ghost use Rattle.run.specs.Heads.{headIn, headFrom, updateIn, fillIn, copyIn, shapeIn, fixedTurn, onHead, turnHead};
+ghost use Rattle.run.specs.Run.{ranTo, scene, machine, table, placeOf, outcome, runWords, fitting, lost, answerOf, runIn};
 
 // The words that wait in a ring from word lo to below word hi: n of them, from word at on.
 struct View {
@@ -65,66 +67,185 @@ fn word_at(ring: &[u32], v: View, i: usize) -> u32
     ring[k]
 }
 
-fn rect_at(ring: &[u32], v: View, i: usize) -> Rect
-    requires { ⌜ InView v (length (now ring)) ⌝ }
-    requires { ⌜ i ≤ 8 ⌝ }
-    ensures { λ r. ⌜ r ≡ rectAt (wordsIn (now (ring .entry)) v) i ⌝ }
+// The first eight words that wait, 0 where fewer wait: a command's number and what the longest head has.
+struct Head {
+    number: u32,
+    w1: u32,
+    w2: u32,
+    w3: u32,
+    w4: u32,
+    w5: u32,
+    w6: u32,
+    w7: u32,
+}
+
+// Eight words in a row.
+fn fetch_near(ring: &[u32], at: usize) -> Head
+    requires { ⌜ at + 8 ≤ length (now ring) ⌝ }
+    ensures { λ r. ⌜ r ≡ headFrom (now (ring .entry)) at ⌝ }
 {
-    Rect {
-        x: word_at(ring, v, i),
-        y: word_at(ring, v, i + 1),
-        w: word_at(ring, v, i + 2),
-        h: word_at(ring, v, i + 3),
+    Head {
+        number: ring[at],
+        w1: ring[at + 1],
+        w2: ring[at + 2],
+        w3: ring[at + 3],
+        w4: ring[at + 4],
+        w5: ring[at + 5],
+        w6: ring[at + 6],
+        w7: ring[at + 7],
     }
 }
 
-fn source_at(ring: &[u32], v: View) -> Source
+// The same where the ring ends among them, or fewer wait.
+fn fetch_far(ring: &[u32], v: View) -> Head
     requires { ⌜ InView v (length (now ring)) ⌝ }
-    ensures { λ r. ⌜ r ≡ sourceAt (wordsIn (now (ring .entry)) v) 1 ⌝ }
+    ensures { λ r. ⌜ r ≡ headIn (wordsIn (now (ring .entry)) v) ⌝ }
 {
-    Source {
-        x: word_at(ring, v, 1),
-        y: word_at(ring, v, 2),
+    Head {
+        number: word_at(ring, v, 0),
+        w1: word_at(ring, v, 1),
+        w2: word_at(ring, v, 2),
+        w3: word_at(ring, v, 3),
+        w4: word_at(ring, v, 4),
+        w5: word_at(ring, v, 5),
+        w6: word_at(ring, v, 6),
+        w7: word_at(ring, v, 7),
     }
 }
 
-fn shape_at(ring: &[u32], v: View) -> Shape
+// A command's head, each word read once.
+fn fetch(ring: &[u32], v: View) -> Head
     requires { ⌜ InView v (length (now ring)) ⌝ }
-    ensures { λ r. ⌜ r ≡ shapeAt (wordsIn (now (ring .entry)) v) 1 ⌝ }
+    ensures { λ r. ⌜ r ≡ headIn (wordsIn (now (ring .entry)) v) ⌝ }
+{
+    let n = v.n;
+    let hi = v.hi;
+    let at = v.at;
+    if 8 <= n {
+        if 8 <= hi - at {
+            return fetch_near(ring, at);
+        }
+    }
+    fetch_far(ring, v)
+}
+
+// ---- what a turn finds, by a command's kind and the words of its head
+
+fn update_in(h: Head) -> Action
+    ensures { λ r. ⌜ r ≡ updateIn h ⌝ }
+{
+    let area = Rect {
+        x: h.w1,
+        y: h.w2,
+        w: h.w3,
+        h: h.w4,
+    };
+    Action::Update(area)
+}
+
+fn fill_in(h: Head, rop: u32) -> Action
+    ensures { λ r. ⌜ r ≡ fillIn h rop ⌝ }
+{
+    let area = Rect {
+        x: h.w2,
+        y: h.w3,
+        w: h.w4,
+        h: h.w5,
+    };
+    Action::Fill(area, h.w1, rop)
+}
+
+fn copy_in(h: Head, rop: u32) -> Action
+    ensures { λ r. ⌜ r ≡ copyIn h rop ⌝ }
+{
+    let from = Source { x: h.w1, y: h.w2 };
+    let area = Rect {
+        x: h.w3,
+        y: h.w4,
+        w: h.w5,
+        h: h.w6,
+    };
+    Action::Copy(from, area, rop)
+}
+
+fn shape_in(h: Head) -> Shape
+    ensures { λ r. ⌜ r ≡ shapeIn h ⌝ }
 {
     Shape {
-        id: word_at(ring, v, 1),
-        hotx: word_at(ring, v, 2),
-        hoty: word_at(ring, v, 3),
-        w: word_at(ring, v, 4),
-        h: word_at(ring, v, 5),
+        id: h.w1,
+        hotx: h.w2,
+        hoty: h.w3,
+        w: h.w4,
+        h: h.w5,
     }
 }
 
-// A command's arguments, each word read once.
-fn fetch(ring: &[u32], v: View, kind: Kind) -> Command
-    requires { ⌜ InView v (length (now ring)) ⌝ }
-    ensures { λ r. ⌜ r ≡ decoded kind (wordsIn (now (ring .entry)) v) ⌝ }
+// A command of fixed size, with the raster operation that it names. One function for each kind: a turn then has its tests at constants.
+fn turn_fixed(action: Action, rop: u32, size: u64, n: u64, carries: u64) -> Turn
+    ensures { λ r. ⌜ r ≡ fixedTurn action rop size n carries ⌝ }
+{
+    if n < size {
+        return Turn::Ends(End::Waiting);
+    }
+    if carries < size {
+        return Turn::Ends(End::Fault(Cause::TooLong));
+    }
+    if 15 < rop {
+        return Turn::Ends(End::Fault(Cause::BadOperand));
+    }
+    Turn::Executes(action, size)
+}
+
+fn turn_cursor(shape: Shape, n: u64, carries: u64) -> Turn
+    ensures { λ r. ⌜ r ≡ onHead 6 (DefineAlphaCursor shape) n carries ⌝ }
+{
+    if n < 6 {
+        return Turn::Ends(End::Waiting);
+    }
+    let good = cursor::shape_good(shape);
+    if !good {
+        return Turn::Ends(End::Fault(Cause::BadOperand));
+    }
+    let size = 6 + shape.w as u64 * shape.h as u64;
+    if carries < size {
+        return Turn::Ends(End::Fault(Cause::TooLong));
+    }
+    if n < size {
+        return Turn::Ends(End::Waiting);
+    }
+    Turn::Executes(Action::Define(shape), size)
+}
+
+fn turn_escape(space: u32, bytes: u32, n: u64, carries: u64) -> Turn
+    ensures { λ r. ⌜ r ≡ onHead 3 (Escape space bytes) n carries ⌝ }
+{
+    if n < 3 {
+        return Turn::Ends(End::Waiting);
+    }
+    let size = 3 + (bytes as u64 + 3) / 4;
+    if carries < size {
+        return Turn::Ends(End::Fault(Cause::TooLong));
+    }
+    if n < size {
+        return Turn::Ends(End::Waiting);
+    }
+    Turn::Executes(Action::Nothing, size)
+}
+
+fn turn_in(kind: Kind, h: Head, n: u64, carries: u64) -> Turn
+    ensures { λ r. ⌜ r ≡ turnHead kind h n carries ⌝ }
 {
     match kind {
-        Kind::Update => Command::Update(rect_at(ring, v, 1)),
-        Kind::RectFill => Command::RectFill(word_at(ring, v, 1), rect_at(ring, v, 2)),
-        Kind::RectCopy => Command::RectCopy(source_at(ring, v), rect_at(ring, v, 3)),
-        Kind::RectRopFill => {
-            Command::RectRopFill(
-                word_at(ring, v, 1),
-                rect_at(ring, v, 2),
-                word_at(ring, v, 6),
-            )
-        }
-        Kind::RectRopCopy => {
-            Command::RectRopCopy(source_at(ring, v), rect_at(ring, v, 3), word_at(ring, v, 7))
-        }
-        Kind::DefineAlphaCursor => Command::DefineAlphaCursor(shape_at(ring, v)),
-        Kind::UpdateVerbose => Command::UpdateVerbose(rect_at(ring, v, 1), word_at(ring, v, 5)),
-        Kind::Fence => Command::Fence(word_at(ring, v, 1)),
-        Kind::Escape => Command::Escape(word_at(ring, v, 1), word_at(ring, v, 2)),
-        Kind::Foreign => Command::Escape(0, 0),
+        Kind::Update => turn_fixed(update_in(h), 3, 5, n, carries),
+        Kind::RectFill => turn_fixed(fill_in(h, 3), 3, 6, n, carries),
+        Kind::RectCopy => turn_fixed(copy_in(h, 3), 3, 7, n, carries),
+        Kind::RectRopFill => turn_fixed(fill_in(h, h.w6), h.w6, 7, n, carries),
+        Kind::RectRopCopy => turn_fixed(copy_in(h, h.w7), h.w7, 8, n, carries),
+        Kind::DefineAlphaCursor => turn_cursor(shape_in(h), n, carries),
+        Kind::UpdateVerbose => turn_fixed(update_in(h), 3, 6, n, carries),
+        Kind::Fence => turn_fixed(Action::Fence(h.w1), 3, 2, n, carries),
+        Kind::Escape => turn_escape(h.w1, h.w2, n, carries),
+        Kind::Foreign => Turn::Ends(End::Fault(Cause::NotOffered)),
     }
 }
 
@@ -137,19 +258,11 @@ fn turn_at(ring: &[u32], v: View) -> Turn
     if n == 0 {
         return Turn::Ends(End::Drained);
     }
-    let kind = command::kind_of(word_at(ring, v, 0));
-    let offered = command::is_offered(kind);
-    if !offered {
-        return Turn::Ends(End::Fault(Cause::NotOffered));
-    }
-    let head = command::head_words(kind);
-    if n < head as usize {
-        return Turn::Ends(End::Waiting);
-    }
     let lo = v.lo;
     let hi = v.hi;
     let carries = hi - lo - 1;
-    command::turn_on(fetch(ring, v, kind), n as u64, carries as u64)
+    let h = fetch(ring, v);
+    turn_in(command::kind_of(h.number), h, n as u64, carries as u64)
 }
 
 fn is_placed(g: Ring, words: usize) -> bool
@@ -243,10 +356,9 @@ fn bring_cursor(action: Action, ring: &[u32], v: View, cursor: &mut [u32])
     }
 }
 
-// The action of a command whose words are those of a view.
+// The action of a command whose words are those of a view, but for the fence and the defined cursor.
 fn execute(
     action: Action,
-    marks: Marks,
     ring: &[u32],
     v: View,
     framebuffer: &[u32],
@@ -254,15 +366,15 @@ fn execute(
     cursor: &mut [u32],
     width: u32,
     rows: u32,
-) -> Marks
+)
     requires { ⌜ InView v (length (now ring)) ⌝ }
     requires { ⌜ Ready action (v .n) ⌝ }
     requires { ⌜ length (now cursor) ≡ 4096 ⌝ }
-    ensures { λ r. ⌜ machine r (now (screen .exit)) (now (cursor .exit)) ≡ done width rows (now (framebuffer .entry)) action (wordsIn (now (ring .entry)) v) (machine marks (now (screen .entry)) (now (cursor .entry))) ⌝ }
+    ensures { λ _. ⌜ now (screen .exit) ≡ screenAfter width rows (now (framebuffer .entry)) action (now (screen .entry)) ⌝ }
+    ensures { λ _. ⌜ now (cursor .exit) ≡ cursorAfter action (wordsIn (now (ring .entry)) v) (now (cursor .entry)) ⌝ }
 {
     bring_cursor(action, ring, v, cursor);
     effect::paint(action, framebuffer, screen, width, rows);
-    effect::mark(marks, action)
 }
 
 // A view behind its first size words.
@@ -299,6 +411,19 @@ fn place_of(v: View) -> Ring
 
 // ---- the run
 
+// What a run gives that ended at a view.
+fn ran_to(v: View, answer: Answer, count: u32, fence: u32, defined: Defined) -> Ran
+    requires { ⌜ (v .lo ≤ v .hi) × (v .at ≤ v .hi) × (v .hi ≤ 524288) ⌝ }
+    ensures { λ r. ⌜ r ≡ ranTo v answer count fence defined ⌝ }
+{
+    Ran {
+        answer,
+        count,
+        ring: place_of(v),
+        marks: Marks { fence, defined },
+    }
+}
+
 // Turns at the words of a view, until the budget is used up or one of them ends the run.
 fn turns(
     view: View,
@@ -317,43 +442,36 @@ fn turns(
     ensures { λ r. ⌜ outcome r (now (ring .exit)) (now (screen .exit)) (now (cursor .exit)) ≡ runWords (turnOf (carried (view .lo) (view .hi)) (table (scene width rows (now (framebuffer .entry))))) (placeOf view) budget (now (ring .entry)) (wordsIn (now (ring .entry)) view) (machine before (now (screen .entry)) (now (cursor .entry))) ⌝ }
 {
     let mut v = view;
-    let mut marks = before;
+    let mut fence = before.fence;
+    let mut defined = before.defined;
     let mut count = 0;
     while count < budget {
         let turn = turn_at(ring, v);
         match turn {
             Turn::Ends(end) => {
-                return Ran {
-                    answer: Answer::Ended(end),
-                    count,
-                    ring: place_of(v),
-                    marks,
-                };
+                return ran_to(v, Answer::Ended(end), count, fence, defined);
             }
             Turn::Executes(action, size) => {
-                marks = execute(
-                    action,
-                    marks,
-                    ring,
-                    v,
-                    framebuffer,
-                    screen,
-                    cursor,
-                    width,
-                    rows,
-                );
+                execute(action, ring, v, framebuffer, screen, cursor, width, rows);
                 v = pass(v, size as usize);
                 ring[3] = (v.at * 4) as u32;
                 count += 1;
+                match action {
+                    Action::Update(_) => {}
+                    Action::Fill(_, _, _) => {}
+                    Action::Copy(_, _, _) => {}
+                    Action::Define(shape) => {
+                        defined = Defined::Cursor(shape);
+                    }
+                    Action::Fence(number) => {
+                        fence = number;
+                    }
+                    Action::Nothing => {}
+                }
             }
         }
     }
-    Ran {
-        answer: Answer::Spent,
-        count,
-        ring: place_of(v),
-        marks,
-    }
+    ran_to(v, Answer::Spent, count, fence, defined)
 }
 
 // Whether the remembered ring lies in the ring memory and the cursor image is one.
