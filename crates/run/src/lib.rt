@@ -356,27 +356,6 @@ fn bring_cursor(action: Action, ring: &[u32], v: View, cursor: &mut [u32])
     }
 }
 
-// The action of a command whose words are those of a view, but for the fence and the defined cursor.
-fn execute(
-    action: Action,
-    ring: &[u32],
-    v: View,
-    framebuffer: &[u32],
-    screen: &mut [u32],
-    cursor: &mut [u32],
-    width: u32,
-    rows: u32,
-)
-    requires { ⌜ InView v (length (now ring)) ⌝ }
-    requires { ⌜ Ready action (v .n) ⌝ }
-    requires { ⌜ length (now cursor) ≡ 4096 ⌝ }
-    ensures { λ _. ⌜ now (screen .exit) ≡ screenAfter width rows (now (framebuffer .entry)) action (now (screen .entry)) ⌝ }
-    ensures { λ _. ⌜ now (cursor .exit) ≡ cursorAfter action (wordsIn (now (ring .entry)) v) (now (cursor .entry)) ⌝ }
-{
-    bring_cursor(action, ring, v, cursor);
-    effect::paint(action, framebuffer, screen, width, rows);
-}
-
 // A view behind its first size words.
 fn pass(v: View, size: usize) -> View
     requires { ⌜ (v .lo ≤ v .at) × (v .at < v .hi) × (size ≤ v .n) × (v .n + v .lo ≤ v .hi) × (v .hi ≤ 524288) ⌝ }
@@ -452,7 +431,8 @@ fn turns(
                 return ran_to(v, Answer::Ended(end), count, fence, defined);
             }
             Turn::Executes(action, size) => {
-                execute(action, ring, v, framebuffer, screen, cursor, width, rows);
+                bring_cursor(action, ring, v, cursor);
+                effect::paint(action, framebuffer, screen, width, rows);
                 v = pass(v, size as usize);
                 ring[3] = (v.at * 4) as u32;
                 count += 1;
