@@ -12,7 +12,7 @@ ghost use Rattle.geometry.specs.Parts.{front, moved, next, Inside, Ordered, aft
 ghost use Rattle.pixel.specs.RasterOperation.{rasterOp};
 ghost use Rattle.pixel.specs.Masks.{reducePixel, masksOf, mergePixel};
 ghost use Rattle.raster.specs.Painters.{rowsFit, filled, updated, copied};
-ghost use Rattle.raster.specs.CutPainters.{filledCut, updatedCut, copiedCut};
+ghost use Rattle.raster.specs.CutPainters.{storedIn, filledCut, updatedCut, movedCut, copiedCut};
 
 fn rows_fit(width: u32, rows: u32, len: usize) -> bool
     ensures { λ r. ⌜ r ≡ rowsFit width rows len ⌝ }
@@ -60,7 +60,38 @@ fn fill_row(row: &mut [u32], keep: u32, flip: u32)
     reduce_row(row, keep, flip);
 }
 
-fn fill_cut(screen: &mut [u32], width: u32, area: Rect, colour: u32, rop: u32)
+// The rows of a plain fill, w pixels each.
+fn store_rows(screen: &mut [u32], width: u32, area: Rect, w: u32, colour: u32)
+    requires { ⌜ Inside width (area .x) (area .y) w (area .h) (length (now screen)) ⌝ }
+    ensures { λ _. ⌜ now (screen .exit) ≡ storedIn width (area .x) (area .y) w (area .h) colour (now (screen .entry)) ⌝ }
+{
+    let step = width as usize;
+    let x = area.x as usize;
+    let y = area.y as usize;
+    let n = w as usize;
+    let h = area.h as usize;
+    let mut j = 0;
+    while j < h {
+        let at = (y + j) * step + x;
+        let past = at + n;
+        store_row(&mut screen[at..past], colour);
+        j += 1;
+    }
+}
+
+// A plain fill. A column apart: with a constant width its rows are single stores.
+fn store_cut(screen: &mut [u32], width: u32, area: Rect, colour: u32)
+    requires { ⌜ Inside width (area .x) (area .y) (area .w) (area .h) (length (now screen)) ⌝ }
+    ensures { λ _. ⌜ now (screen .exit) ≡ storedIn width (area .x) (area .y) (area .w) (area .h) colour (now (screen .entry)) ⌝ }
+{
+    if area.w == 1 {
+        store_rows(screen, width, area, 1, colour);
+        return;
+    }
+    store_rows(screen, width, area, area.w, colour);
+}
+
+fn reduce_cut(screen: &mut [u32], width: u32, area: Rect, colour: u32, rop: u32)
     requires { ⌜ Inside width (area .x) (area .y) (area .w) (area .h) (length (now screen)) ⌝ }
     ensures { λ _. ⌜ now (screen .exit) ≡ filledCut width area colour rop (now (screen .entry)) ⌝ }
 {
@@ -79,6 +110,17 @@ fn fill_cut(screen: &mut [u32], width: u32, area: Rect, colour: u32, rop: u32)
         fill_row(&mut screen[at..end], keep, flip);
         j += 1;
     }
+}
+
+fn fill_cut(screen: &mut [u32], width: u32, area: Rect, colour: u32, rop: u32)
+    requires { ⌜ Inside width (area .x) (area .y) (area .w) (area .h) (length (now screen)) ⌝ }
+    ensures { λ _. ⌜ now (screen .exit) ≡ filledCut width area colour rop (now (screen .entry)) ⌝ }
+{
+    if rop == 3 {
+        store_cut(screen, width, area, colour);
+        return;
+    }
+    reduce_cut(screen, width, area, colour, rop);
 }
 
 // Each pixel of the rectangle in the rows gets the raster operation of the colour and what stood there. Any rectangle will do.
@@ -291,8 +333,33 @@ fn next_row(back: bool, n: usize, done: usize) -> usize
     done
 }
 
+// The rows of a plain copy, in the order of merge_cut.
+fn move_cut(screen: &mut [u32], width: u32, sx: u32, sy: u32, area: Rect)
+    requires { ⌜ Inside width (area .x) (area .y) (area .w) (area .h) (length (now screen)) ⌝ }
+    requires { ⌜ Inside width sx sy (area .w) (area .h) (length (now screen)) ⌝ }
+    requires { ⌜ width ≤ 2560 ⌝ }
+    ensures { λ _. ⌜ now (screen .exit) ≡ movedCut width sx sy area (now (screen .entry)) ⌝ }
+{
+    let up = comes_after(sx, sy, area.x, area.y);
+    let step = width as usize;
+    let from_x = sx as usize;
+    let from_y = sy as usize;
+    let x = area.x as usize;
+    let y = area.y as usize;
+    let w = area.w as usize;
+    let h = area.h as usize;
+    let mut done = 0;
+    while done < h {
+        let j = next_row(up, h, done);
+        let from = (from_y + j) * step + from_x;
+        let to = (y + j) * step + x;
+        move_row(screen, from, to, w);
+        done += 1;
+    }
+}
+
 // Rows from the top, or from the bottom where the destination comes after the source: no pixel is painted before it is read.
-fn copy_cut(screen: &mut [u32], width: u32, sx: u32, sy: u32, area: Rect, rop: u32)
+fn merge_cut(screen: &mut [u32], width: u32, sx: u32, sy: u32, area: Rect, rop: u32)
     requires { ⌜ Inside width (area .x) (area .y) (area .w) (area .h) (length (now screen)) ⌝ }
     requires { ⌜ Inside width sx sy (area .w) (area .h) (length (now screen)) ⌝ }
     requires { ⌜ width ≤ 2560 ⌝ }
@@ -315,6 +382,19 @@ fn copy_cut(screen: &mut [u32], width: u32, sx: u32, sy: u32, area: Rect, rop: u
         copy_row(screen, from, to, w, rop, m, back);
         done += 1;
     }
+}
+
+fn copy_cut(screen: &mut [u32], width: u32, sx: u32, sy: u32, area: Rect, rop: u32)
+    requires { ⌜ Inside width (area .x) (area .y) (area .w) (area .h) (length (now screen)) ⌝ }
+    requires { ⌜ Inside width sx sy (area .w) (area .h) (length (now screen)) ⌝ }
+    requires { ⌜ width ≤ 2560 ⌝ }
+    ensures { λ _. ⌜ now (screen .exit) ≡ copiedCut width sx sy area rop (now (screen .entry)) ⌝ }
+{
+    if rop == 3 {
+        move_cut(screen, width, sx, sy, area);
+        return;
+    }
+    merge_cut(screen, width, sx, sy, area, rop);
 }
 
 // The pixels at (sx, sy) move to the rectangle by the raster operation: offset (i, j) exactly if its source and its destination

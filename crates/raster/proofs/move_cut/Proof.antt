@@ -1,0 +1,72 @@
+-- `raster::move_cut` meets its contract. The invariant: the rows done so far are painted.
+-- Assumes nothing.
+use Prim.Native.Nat.{ℕ, _+_, _*_, _-_, _≤_, _<_}
+use native.Mathlib.Omega.{arith}
+use lib.ListN.{length}
+use borrow.Author.Needs.{needs}
+use Rattle.geometry.specs.Pixels.{inRect}
+use Rattle.geometry.specs.Parts.{doneFrom}
+use Rattle.geometry.proofs.Painted.{Done}
+use Rattle.geometry.proofs.Rows.{row-room, rows-none, rows-ordered, copiedAt, row-copied, next-fits, rows-done}
+use Rattle.raster.specs.CutPainters.{movedCut}
+use Rattle.raster.proofs.move_cut.Statement.{statement}
+use Rattle.raster.proofs.move_cut.Tie as tie
+
+abbrev Inv-loop : tie.InvT-loop
+Inv-loop screen₀ width sx sy up step from-x from-y x y w h done₀ screen done =
+    (done ≤ h) × Done (inRect step x (y + doneFrom up h done) w done) (copiedAt step from-x from-y x y (λ s d. s) screen₀) screen₀ screen
+
+abbrev μ-loop : tie.MeasureT-loop
+μ-loop screen₀ width sx sy up step from-x from-y x y w h done₀ screen done = h - done
+
+abbrev Start : tie.After-next-row Inv-loop μ-loop → tie.Start Inv-loop μ-loop
+Start c = c .before .before .before .before .before .before .before .before .before
+
+-- the row of a turn
+module _ (c : tie.After-next-row Inv-loop μ-loop) where
+  abbrev j : ℕ
+  j = c .next-row .result
+
+  turn : j < Start c .args .area .h
+  turn =
+      let f = next-fits (c .before .before .before .before .before .before .before .comes-after .result) (Start c .args .area .h) (c .before .before .loop .done) 1 j (c .next-row .ensures) (omega arith) in
+      omega arith
+
+  from-room : (Start c .args .sy + j) * Start c .args .width + Start c .args .sx + Start c .args .area .w ≤ length (Start c .args .screen .now)
+  from-room = row-room (Start c .pre .1 .0) turn
+
+  to-room : (Start c .args .area .y + j) * Start c .args .width + Start c .args .area .x + Start c .args .area .w ≤ length (Start c .args .screen .now)
+  to-room = row-room (Start c .pre .0) turn
+
+loop-holds : tie.Need-loop-holds Inv-loop μ-loop
+loop-holds c = (search needs, rows-none _ _ _ _ _ _)
+
+move-row-requires : tie.Need-move-row-requires Inv-loop μ-loop
+move-row-requires c κs =
+    let start = Start (c .before) in
+    omega (arith, from-room (c .before), to-room (c .before), start .pre .0 .across, start .pre .1 .1)
+
+loop-again : tie.Need-loop-again Inv-loop μ-loop
+loop-again c =
+    let start = c .before .before .before .before .before .before .before .before .before .before .before .before .before in
+    let a = start .args in
+    let back = c .before .before .before .before .before .before .before .before .before .before .before .comes-after in (
+      search needs,
+      row-copied (back .result) (a .width) (a .sx) (a .sy) (a .area .x) (a .area .y) (a .area .w) (a .area .h) (c .before .before .before .before .before .before .loop .done) (λ s d. s) (a .screen .now) _
+          (rows-ordered (back .result) (a .sx) (a .sy) (a .area .x) (a .area .y) (back .ensures)) (c .before .before .before .before .before .before .loop .inv .1) (omega arith) (start .pre .0) (start .pre .1 .0) _
+          (rw (c .before .before .before .before .next-row .ensures) at (c .before .before .move-row .ensures)),
+    )
+
+returns : tie.Need-returns Inv-loop μ-loop
+unfolding movedCut
+returns c =
+    let a = c .before .before .before .before .before .before .before .before .args in
+    rows-done (c .before .before .before .before .before .before .comes-after .result) (a .width) (a .area .x) (a .area .y) (a .area .w) (a .area .h) _ _ (a .screen .now) _ (omega arith) (c .before .loop .inv .1)
+
+pub move-cut-spec : {M : Type 1} → statement M
+move-cut-spec =
+    tie.close
+    (tie.spec Inv-loop μ-loop (λ c κs. search needs) (λ c. search needs) (λ c. search needs) (λ c. search needs)
+    (λ c. search needs) loop-holds (λ c κs. omega arith) (λ c. omega (arith, turn c)) (λ c. omega (arith, from-room c))
+    (λ c. omega (arith, from-room c)) (λ c. omega (arith, turn c)) (λ c. omega (arith, to-room c)) (λ c. omega (arith, to-room c))
+    move-row-requires (λ c. search needs) (λ c. search needs) loop-again (λ c. search needs) returns)
