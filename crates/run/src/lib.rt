@@ -15,7 +15,8 @@ ghost use Prim.Native.Nat.{_+_, _/_, _≤_, _<_};
 ghost use mathlib.Core.List.{_++_};
 ghost use lib.ListN.{length, getD, take, drop};
 ghost use Rattle.order.specs.Table.{turnOf};
-ghost use Rattle.ring.specs.Waiting.{between, carried};
+ghost use lib.Seq.{paste};
+ghost use Rattle.ring.specs.Waiting.{between, words, carried};
 ghost use Rattle.command.specs.declared.Command.the-variants.{DefineAlphaCursor, Escape};
 ghost use Rattle.command.specs.Words.{turnWords};
 ghost use Rattle.effect.specs.Effects.{screenAfter, cursorAfter};
@@ -325,6 +326,32 @@ fn view_of(at: Ring, next: u32) -> View
 
 // ---- a command executed
 
+// n words of the ring from word from on, into the cursor image from word to on.
+fn copy_span(ring: &[u32], from: usize, cursor: &mut [u32], to: usize, n: usize)
+    requires { ⌜ (from + n ≤ length (now ring)) × (to + n ≤ length (now cursor)) ⌝ }
+    ensures { λ _. ⌜ now (cursor .exit) ≡ paste (now (cursor .entry)) to (drop from (now (ring .entry))) n ⌝ }
+{
+    let mut j = 0;
+    while j < n {
+        cursor[to + j] = ring[from + j];
+        j += 1;
+    }
+}
+
+// The words from place p of the ring on, count of them, into the first words of the cursor image: up to the ring's end, and from its begin on.
+fn copy_words(ring: &[u32], lo: usize, hi: usize, p: usize, count: usize, cursor: &mut [u32])
+    requires { ⌜ (lo ≤ p) × (p < hi) × (count + lo ≤ hi) × (hi ≤ length (now ring)) × (count ≤ length (now cursor)) ⌝ }
+    ensures { λ _. ⌜ now (cursor .exit) ≡ words (now (ring .entry)) lo hi p count ++ drop count (now (cursor .entry)) ⌝ }
+{
+    let first = hi - p;
+    if count <= first {
+        copy_span(ring, p, cursor, 0, count);
+        return;
+    }
+    copy_span(ring, p, cursor, 0, first);
+    copy_span(ring, lo, cursor, first, count - first);
+}
+
 // A cursor's pixels, which follow the six words of its head, into the first words of the cursor image.
 fn copy_pixels(ring: &[u32], v: View, count: usize, cursor: &mut [u32])
     requires { ⌜ InView v (length (now ring)) ⌝ }
@@ -332,11 +359,14 @@ fn copy_pixels(ring: &[u32], v: View, count: usize, cursor: &mut [u32])
     requires { ⌜ count ≤ length (now cursor) ⌝ }
     ensures { λ _. ⌜ now (cursor .exit) ≡ take count (drop 6 (wordsIn (now (ring .entry)) v)) ++ drop count (now (cursor .entry)) ⌝ }
 {
-    let mut i = 0;
-    while i < count {
-        cursor[i] = word_at(ring, v, 6 + i);
-        i += 1;
+    let lo = v.lo;
+    let hi = v.hi;
+    let p = v.at + 6;
+    if p < hi {
+        copy_words(ring, lo, hi, p, count, cursor);
+        return;
     }
+    copy_words(ring, lo, hi, p - (hi - lo), count, cursor);
 }
 
 // The cursor image's part of an action.
