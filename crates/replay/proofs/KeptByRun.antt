@@ -12,7 +12,6 @@ use lib.ListN.{length, getD, take, length-set, length-take, length-drop, length-
 use lib.Seq.{getD-set-other}
 use borrow.Author.Tests.{eqb-true, leb-true, ltb-true, ltb-false, eq-eqb, le-leb, lt-ltb, le-ltb}
 use Rattle.geometry.proofs.Tests.{by-bool, both}
-use Rattle.order.specs.declared.End.{End}
 use Rattle.order.specs.declared.End.the-variants.{Drained, Waiting, Fault}
 use Rattle.order.specs.declared.Cause.the-variants.{NotOffered, BadOperand, TooLong, BadNext}
 use Rattle.order.specs.Straight.{ends, exec, Line, beyond, next}
@@ -44,7 +43,7 @@ use Rattle.effect.specs.Effects.{Machine, screenAfter, cursorAfter, marksAfter,
 use Rattle.run.specs.Turns.{Ready, nextGood}
 use Rattle.run.specs.Run.{Scene, scene, machine, table, turnIn, stamped, Outcome, left, runWords, fitting, runIn}
 use Rattle.run.proofs.Laws.{next-says}
-use Rattle.run.proofs.Found.{Found, found}
+use Rattle.run.proofs.Found.{Found, on-to, found}
 use Rattle.adapter.specs.declared.Condition.{Condition}
 use Rattle.adapter.specs.declared.Condition.the-variants.{Idle, Running, Faulted}
 use Rattle.adapter.specs.declared.Device.{Device}
@@ -122,10 +121,6 @@ GoodAction (Copy from r rop) = Unit {0}
 GoodAction (Define s) = shapeGood s ≡ true
 GoodAction (Fence number) = Unit {0}
 GoodAction Nothing = Unit {0}
-
-on-to : (b : Bool) (t : Turn) (e : End) (a : Action) (n : ℕ) → cond b t (Ends e) ≡ Executes a n → (b ≡ true) × (t ≡ Executes a n)
-on-to true t e a n q = (refl, q)
-on-to false t e a n q = let z : _≡_ {A = ℕ} 0 1 = cc in absurd (omega arith)
 
 good-action : (c : Command) → headGood c ≡ true → GoodAction (actionOf c)
 unfolding actionOf headGood

@@ -14,7 +14,7 @@ use Rattle.geometry.proofs.Tests.{both}
 use Rattle.order.specs.declared.Cause.{Cause}
 use Rattle.order.specs.declared.End.the-variants.{Drained, Waiting, Fault}
 use Rattle.order.specs.Straight.{Turn, Line, more}
-use Rattle.order.specs.Table.{turnOf, unless}
+use Rattle.order.specs.Table.{turnOf}
 use Rattle.order.specs.Claim.{Op, Answer, spent, standing, ended, taken, counted, metEnd, met}
 use Rattle.order.specs.Claim as C
 use Rattle.order.specs.Queue.{Queue, Acted, Ran, fresh, offer, settle, runs, try, act}
@@ -39,25 +39,19 @@ use Rattle.adapter.specs.Run.{RunOutcome, lentGood, conditionAfter, ran, runBy,
 use Rattle.adapter.proofs.Laws.{well-formed}
 use Rattle.replay.specs.Calls.{World, withRing, Outcome, append, run, perform}
 use Rattle.replay.specs.Demand.{ringAtStart, isStart, sceneOf, turnIn, wordsIn, machineIn, lineIn, standsIn, wordsOn, numbersOf}
+use Rattle.run.proofs.RunLaws.{turn-kept}
 use Rattle.replay.proofs.Runs.{Leaves, run-leaves}
 use Rattle.replay.proofs.KeptByRun.{Sound, sound-exec}
 use Rattle.replay.proofs.Places.{on-add, on-ahead, Holds, InWords, in-words, held-in, passed-by}
 
 -- ---- the definitions of a run, where nothing is refused
 
-same-turn : (s : Scene) (g : Ring) (next : ℕ) → nextGood g next ≡ true → R.turnIn s g next ≡ turnOf (carried (g .min) (g .max)) (table s)
-unfolding R.turnIn unless
-same-turn s g next e = λ i m w. turned m w i
-  where
-    turned : (m : Machine) (w : List ℕ) → R.turnIn s g next m w ≡ turnOf (carried (g .min) (g .max)) (table s) m w
-    turned m w = rw e
-
 run-in : (s : Scene) (g : Ring) (b : ℕ) (ring : List ℕ) (m : Machine) → fitting g (length ring) (length (m .cursor)) ≡ true → nextGood g (nextOf ring) ≡ true
     → runIn s g b ring m
     ≡ (let words = waiting ring (g .min) (g .max) (g .stop) (nextOf ring / 4) in
     left g ring words (runs (turnOf (carried (g .min) (g .max)) (table s)) b (record { words = words; machine = m })))
 unfolding runIn runWords
-run-in s g b ring m f n = rw (f, same-turn s g (nextOf ring) n)
+run-in s g b ring m f n = rw (f, turn-kept s g (nextOf ring) n)
 
 run-passes : (d : Device) (ring framebuffer screen cursor : List ℕ) (b : ℕ)
     → made d ≡ true

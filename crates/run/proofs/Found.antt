@@ -33,7 +33,7 @@ pub record Found (a : Action) (n : ℕ) (w : List ℕ) : Type 0 where
   pub own : (cursor : List ℕ) → cursorAfter a (take n w) cursor ≡ cursorAfter a w cursor
 
 -- a test that leads on to a command holds
-on-to : (b : Bool) (t : Turn) (e : End) (a : Action) (n : ℕ) → cond b t (Ends e) ≡ Executes a n → (b ≡ true) × (t ≡ Executes a n)
+pub on-to : (b : Bool) (t : Turn) (e : End) (a : Action) (n : ℕ) → cond b t (Ends e) ≡ Executes a n → (b ≡ true) × (t ≡ Executes a n)
 on-to true t e a n q = (refl, q)
 on-to false t e a n q = let z : _≡_ {A = ℕ} 0 1 = cc in absurd (omega arith)
 

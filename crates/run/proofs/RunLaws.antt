@@ -66,7 +66,7 @@ run-lost s g budget ring m fits bad =
     rw (fits, runs-lost s g (nextOf ring) budget m _ bad) (left-same g ring _ _ m (p .below))
 
 -- NEXT_CMD usable: the turn is straight execution's
-turn-kept : (s : Scene) (g : Ring) (next : ℕ) → nextGood g next ≡ true → turnIn s g next ≡ turnOf (carried (g .min) (g .max)) (table s)
+pub turn-kept : (s : Scene) (g : Ring) (next : ℕ) → nextGood g next ≡ true → turnIn s g next ≡ turnOf (carried (g .min) (g .max)) (table s)
 unfolding turnIn unless
 turn-kept s g next e = λ i m w. same m w i
   where
