@@ -29,30 +29,30 @@ ghost use Rattle.adapter.specs.Fence.{fenceOf, fencePassed};
 
 // M, the bytes of the ring memory, and P, the pixels of framebuffer and screen.
 pub struct Sizes {
-    memory: u32,
-    pixels: u32,
+    pub memory: u32,
+    pub pixels: u32,
 }
 
 // The writable registers' values last taken. The mode is width by height.
 pub struct Registers {
-    id: u32,
-    enable: bool,
-    width: u32,
-    height: u32,
-    config: bool,
-    guest: u32,
-    cursorid: u32,
-    cursorx: u32,
-    cursory: u32,
-    cursoron: u32,
+    pub id: u32,
+    pub enable: bool,
+    pub width: u32,
+    pub height: u32,
+    pub config: bool,
+    pub guest: u32,
+    pub cursorid: u32,
+    pub cursorx: u32,
+    pub cursory: u32,
+    pub cursoron: u32,
 }
 
 // The cursor plane: whether it is shown, and what CURSOR_ON 1 remembered.
 pub struct Plane {
-    shown: bool,
-    id: u32,
-    x: u32,
-    y: u32,
+    pub shown: bool,
+    pub id: u32,
+    pub x: u32,
+    pub y: u32,
 }
 
 pub enum Condition {
@@ -62,13 +62,13 @@ pub enum Condition {
 }
 
 pub struct Device {
-    sizes: Sizes,
-    registers: Registers,
-    plane: Plane,
-    defined: Defined,
-    fence: u32,
-    busy: bool,
-    condition: Condition,
+    pub sizes: Sizes,
+    pub registers: Registers,
+    pub plane: Plane,
+    pub defined: Defined,
+    pub fence: u32,
+    pub busy: bool,
+    pub condition: Condition,
 }
 
 pub enum Making {
@@ -254,7 +254,8 @@ fn defined_good(defined: Defined) -> bool
 }
 
 // Whether a device has what every call keeps: sizes, mode, ring, condition and cursor in their ranges and agreeing.
-fn is_made(d: Device) -> bool
+// Rules out: a device with CONFIG_DONE 1 and no ring; a mode of 2,561 pixels to a row.
+pub fn is_made(d: Device) -> bool
     ensures { λ r. ⌜ r ≡ made d ⌝ }
 {
     let sizes = d.sizes;
