@@ -1,0 +1,88 @@
+-- Reading back what was written gives the same device, and lent words that hold a device are exactly its words.
+use mathlib.Core.Path.{_≡_, refl, sym, ap}
+use mathlib.Core.Bool.{Bool, true, false, _&&_, false≢true}
+use mathlib.Core.List.{List, [], _∷_}
+use Prim.Native.Nat.{ℕ}
+use lib.Dec.{eqb}
+use lib.ListN.{length}
+use native.Mathlib.Omega.{arith}
+use borrow.Author.Tests.{eq-eqb, eqb-true}
+use Rattle.geometry.proofs.Tests.{by-bool, both}
+use Rattle.cursor.specs.declared.Defined.{Defined}
+use Rattle.cursor.specs.declared.Defined.the-variants.{Undefined, Cursor}
+use Rattle.order.specs.declared.Cause.the-variants.{NotOffered, BadOperand, TooLong, BadNext}
+use Rattle.adapter.specs.declared.Condition.{Condition}
+use Rattle.adapter.specs.declared.Condition.the-variants.{Idle, Running, Faulted}
+use Rattle.adapter.specs.declared.Device.{Device}
+use Rattle.adapter.specs.Device.{made}
+use Rattle.adapter.specs.Registers.{bit}
+use Rattle.device_words.specs.declared.Held.{Held}
+use Rattle.device_words.specs.declared.Held.the-variants.{Device as Holds, Nothing}
+use Rattle.device_words.specs.Words.{definedParts, conditionParts, wordsOf, definedFrom, conditionFrom, deviceFrom, same, heldIn}
+
+bit-back : (b : Bool) → eqb (bit b) 1 ≡ b
+bit-back true = refl
+bit-back false = refl
+
+defined-back : (c : Defined) → definedFrom (definedParts c .tag) (definedParts c .shape) ≡ c
+unfolding definedFrom definedParts
+defined-back Undefined = refl
+defined-back (Cursor s) = refl
+
+condition-back : (c : Condition) → conditionFrom (conditionParts c .tag) (conditionParts c .ring) ≡ c
+unfolding conditionFrom conditionParts
+condition-back Idle = refl
+condition-back (Running g) = refl
+condition-back (Faulted NotOffered) = refl
+condition-back (Faulted BadOperand) = refl
+condition-back (Faulted TooLong) = refl
+condition-back (Faulted BadNext) = refl
+
+device-back : (d : Device) → deviceFrom (wordsOf d) ≡ d
+unfolding deviceFrom wordsOf
+device-back d =
+    rw (bit-back (d .registers .enable), bit-back (d .registers .config), bit-back (d .plane .shown), bit-back (d .busy), defined-back (d .defined), condition-back (d .condition))
+
+same-itself : (l : List ℕ) → same l l ≡ true
+same-itself [] = refl
+same-itself (x ∷ l) = rw (eq-eqb x x refl) (same-itself l)
+
+same-equal : (a b : List ℕ) → same a b ≡ true → a ≡ b
+same-equal [] [] e = refl
+same-equal [] (y ∷ b) e = absurd (false≢true e)
+same-equal (x ∷ a) [] e = absurd (false≢true e)
+same-equal (x ∷ a) (y ∷ b) e =
+    let h = both (eqb x y) (same a b) e in
+    rw (eqb-true x y (h .0), same-equal a b (h .1))
+
+pub words-count : (d : Device) → length (wordsOf d) ≡ 64
+unfolding wordsOf
+words-count d = refl
+
+-- "Reading back what was written gives the same device."
+pub read-back : (d : Device) → made d ≡ true → heldIn (wordsOf d) ≡ Holds d
+unfolding heldIn
+read-back d m = rw (eq-eqb _ _ (words-count d), device-back d, m, same-itself (wordsOf d))
+
+-- Lent words that hold a device are its own 64 words, and the device is well-formed: nothing in them is left unread.
+pub record HeldBy (w : List ℕ) (d : Device) : Type 0 where
+  pub count : length w ≡ 64
+  pub is-made : made d ≡ true
+  pub its-words : wordsOf d ≡ w
+
+none-held : (d : Device) {P : Type 0} → _≡_ {A = Held} Nothing (Holds d) → P
+none-held d e = let z : _≡_ {A = ℕ} 0 1 = cc in absurd (omega arith)
+
+pub held-words : (w : List ℕ) (d : Device) → heldIn w ≡ Holds d → HeldBy w d
+unfolding heldIn
+held-words w d e =
+    by-bool (eqb (length w) 64)
+    (λ n. by-bool (made (deviceFrom w))
+    (λ m. by-bool (same (wordsOf (deviceFrom w)) w)
+    (λ k.
+    let h : Holds (deviceFrom w) ≡ Holds d = rw (n, m, k) at e in
+    let f : deviceFrom w ≡ d = cc in
+    record { count = eqb-true _ _ n; is-made = rw f at m; its-words = same-equal _ _ (rw f at k) })
+    (λ k. none-held d (rw (n, m, k) at e)))
+    (λ m. none-held d (rw (n, m) at e)))
+    (λ n. none-held d (rw n at e))
