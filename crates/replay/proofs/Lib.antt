@@ -7,3 +7,4 @@ pub mod StartTest
 pub mod Walks
 pub mod Starts
 pub mod NoHarm
+pub mod InWords

@@ -1,0 +1,26 @@
+-- `capi::svga_make` meets its contract.
+-- Assumes nothing.
+use borrow.Author.Needs.{needs}
+use borrow.Author.Tests.{eq-eqb, ne-eqb}
+use Rattle.capi.specs.Calls.{makeIn}
+use Rattle.capi.proofs.Laws.{put-whole}
+use Rattle.capi.proofs.svga_make.Statement.{statement}
+use Rattle.capi.proofs.svga_make.Tie as tie
+
+returns : tie.Need-returns
+unfolding makeIn
+returns c = rw (ne-eqb _ _ (c .if1 .taken))
+
+returns-2 : tie.Need-returns-2
+unfolding makeIn
+returns-2 c = rw (eq-eqb _ _ (c .before .before .before .before .before .before .before .before .if1 .left), ← (c .before .before .before .before .before .before .before .make .ensures), c .before .before .before .before .before .making .given .1, put-whole _ _ (c .before .before .before .before .before .before .before .before .if1 .left) _ (c .before .before .put-in .ensures))
+
+returns-3 : tie.Need-returns-3
+unfolding makeIn
+returns-3 c = rw (eq-eqb _ _ (c .before .before .before .if1 .left), ← (c .before .before .make .ensures), c .enum-told .given .1)
+
+pub svga-make-spec : {M : Type 1} → statement M
+svga-make-spec =
+    tie.close
+    (tie.spec
+    returns (λ c κs. search needs) (λ c. search needs) (λ c κs. search needs) (λ c. search needs) returns-2 (λ c. search needs) returns-3)

@@ -1,0 +1,128 @@
+-- The device's calls for C and Rust, on a device in lent words. Each is the adapter's definition on the device that the words hold.
+use Prim.Native.Nat.{ℕ, _+_, _*_}
+use mathlib.Core.Bool.{cond}
+use mathlib.Core.List.{List, [], _∷_}
+use mathlib.Core.Option.{Option, none, some}
+use lib.Dec.{eqb}
+use lib.ListN.{length}
+use Rattle.adapter.specs.declared.Device.{Device}
+use Rattle.adapter.specs.declared.Edges.{Edges}
+use Rattle.adapter.specs.Answers.{Creation, Reading, Pictured, madeOf}
+use Rattle.adapter.specs.Registers.{bit, readOf, written}
+use Rattle.adapter.specs.Run.{RunOutcome, runOf}
+use Rattle.adapter.specs.Picture.{pictureOf}
+use Rattle.adapter.specs.Offscreen.{offscreenOf}
+use Rattle.adapter.specs.Fence.{fenceOf, fencePassed}
+use Rattle.device_words.specs.declared.Held.{Held}
+use Rattle.device_words.specs.declared.Held.the-variants.{Device as Holds, Nothing}
+use Rattle.device_words.specs.Words.{wordsOf, heldIn}
+
+-- An answer in the high half, a value in the low.
+abbrev pub packed : ℕ → ℕ → ℕ
+packed answer value = answer * 4294967296 + value
+
+-- A device length that differs is answer 20, and looked at first.
+abbrev pub inWords : {A : Type 0} → List ℕ → A → A → A
+inWords w good bad = cond (eqb (length w) 64) good bad
+
+-- ---- making and registers
+
+-- What is answered, and the device's words then.
+pub record Call : Type 0 where
+  pub answer : ℕ
+  pub device : List ℕ
+
+abbrev pub call : ℕ → List ℕ → Call
+call answer device = record { answer = answer; device = device }
+
+-- 0, and all words are the fresh device's; or 34, and nothing changes.
+abbrev pub madeWords : List ℕ → Option Device → List ℕ
+madeWords w none = w
+madeWords w (some d) = wordsOf d
+
+unfoldable pub makeIn : List ℕ → ℕ → ℕ → Call
+makeIn w memory pixels =
+    inWords w (call (madeOf memory pixels .answer) (madeWords w (madeOf memory pixels .device))) (call 20 w)
+
+-- Words that hold no device: no such register, 30.
+unfoldable pub writeHeld : List ℕ → List ℕ → ℕ → ℕ → Held → Call
+writeHeld w ring index value (Holds d) = call (written d ring index value .answer) (wordsOf (written d ring index value .device))
+writeHeld w ring index value Nothing = call 30 w
+
+unfoldable pub writeIn : List ℕ → List ℕ → ℕ → ℕ → Call
+writeIn w ring index value = inWords w (writeHeld w ring index value (heldIn w)) (call 20 w)
+
+unfoldable pub readHeld : ℕ → Held → ℕ
+readHeld index (Holds d) = packed (readOf d index .answer) (readOf d index .value)
+readHeld index Nothing = packed 30 0
+
+unfoldable pub readIn : List ℕ → ℕ → ℕ
+readIn w index = inWords w (readHeld index (heldIn w)) (packed 20 0)
+
+-- ---- run
+
+pub record RunCall : Type 0 where
+  pub result : ℕ
+  pub device : List ℕ
+  pub ring : List ℕ
+  pub screen : List ℕ
+  pub cursor : List ℕ
+
+abbrev pub runCall : ℕ → List ℕ → List ℕ → List ℕ → List ℕ → RunCall
+runCall result device ring screen cursor = record { result = result; device = device; ring = ring; screen = screen; cursor = cursor }
+
+abbrev pub runWords : RunOutcome → RunCall
+runWords o = runCall (packed (o .answer) (o .count)) (wordsOf (o .device)) (o .ring) (o .screen) (o .cursor)
+
+-- Words that hold no device: not configured, 22.
+unfoldable pub runHeld : List ℕ → List ℕ → List ℕ → List ℕ → List ℕ → ℕ → Held → RunCall
+runHeld w ring framebuffer screen cursor budget (Holds d) = runWords (runOf d ring framebuffer screen cursor budget)
+runHeld w ring framebuffer screen cursor budget Nothing = runCall (packed 22 0) w ring screen cursor
+
+unfoldable pub runIn : List ℕ → List ℕ → List ℕ → List ℕ → List ℕ → ℕ → RunCall
+runIn w ring framebuffer screen cursor budget =
+    inWords w (runHeld w ring framebuffer screen cursor budget (heldIn w)) (runCall (packed 20 0) w ring screen cursor)
+
+-- ---- picture, offscreen rectangle, fences
+
+-- Words that hold no device: 24.
+unfoldable pub pictureHeld : List ℕ → List ℕ → List ℕ → Held → Pictured
+pictureHeld screen image output (Holds d) = pictureOf d screen image output
+pictureHeld screen image output Nothing = record { answer = 24; output = output }
+
+unfoldable pub pictureIn : List ℕ → List ℕ → List ℕ → List ℕ → Pictured
+pictureIn w screen image output = inWords w (pictureHeld screen image output (heldIn w)) (record { answer = 20; output = output })
+
+-- What is answered, and the four edges then.
+pub record EdgesCall : Type 0 where
+  pub answer : ℕ
+  pub edges : List ℕ
+
+abbrev pub edgesCall : ℕ → List ℕ → EdgesCall
+edgesCall answer edges = record { answer = answer; edges = edges }
+
+abbrev pub edgeWords : Edges → List ℕ
+edgeWords e = e .left ∷ e .top ∷ e .right ∷ e .bottom ∷ []
+
+-- Words that hold no device: four zeros, an empty rectangle.
+unfoldable pub edgesHeld : Held → List ℕ
+edgesHeld (Holds d) = edgeWords (offscreenOf d)
+edgesHeld Nothing = 0 ∷ 0 ∷ 0 ∷ 0 ∷ []
+
+unfoldable pub offscreenIn : List ℕ → List ℕ → EdgesCall
+offscreenIn w edges = inWords w (cond (eqb (length edges) 4) (edgesCall 0 (edgesHeld (heldIn w))) (edgesCall 20 edges)) (edgesCall 20 edges)
+
+-- Words that hold no device have no fence: 30, as for a register that is not there.
+unfoldable pub fenceHeld : Held → ℕ
+fenceHeld (Holds d) = packed 0 (fenceOf d)
+fenceHeld Nothing = packed 30 0
+
+unfoldable pub fenceIn : List ℕ → ℕ
+fenceIn w = inWords w (fenceHeld (heldIn w)) (packed 20 0)
+
+unfoldable pub passedHeld : ℕ → Held → ℕ
+passedHeld f (Holds d) = packed 0 (bit (fencePassed (fenceOf d) f))
+passedHeld f Nothing = packed 30 0
+
+unfoldable pub passedIn : List ℕ → ℕ → ℕ
+passedIn w f = inWords w (passedHeld f (heldIn w)) (packed 20 0)

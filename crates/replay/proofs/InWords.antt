@@ -1,0 +1,21 @@
+-- A device that a host keeps as words: what a register write or a run leaves is a well-formed device again, so its words hold it.
+use mathlib.Core.Path.{_≡_}
+use mathlib.Core.List.{List}
+use Prim.Native.Nat.{ℕ}
+use Rattle.adapter.specs.declared.Device.{Device}
+use Rattle.adapter.specs.Registers.{written}
+use Rattle.adapter.specs.Run.{runOf}
+use Rattle.adapter.proofs.Kept.{written-made}
+use Rattle.device_words.specs.declared.Held.the-variants.{Device as Holds}
+use Rattle.device_words.specs.Words.{wordsOf, heldIn}
+use Rattle.device_words.proofs.RoundTrip.{held-words, read-back}
+use Rattle.replay.proofs.KeptByRun.{run-made}
+
+module _ (w : List ℕ) (d : Device) (there : heldIn w ≡ Holds d) where
+  pub write-held : (ring : List ℕ) (index v : ℕ) → heldIn (wordsOf (written d ring index v .device)) ≡ Holds (written d ring index v .device)
+  write-held ring index v = read-back _ (written-made d ring index v (held-words w d there .is-made))
+
+  pub run-held : (ring framebuffer screen cursor : List ℕ) (budget : ℕ)
+      → heldIn (wordsOf (runOf d ring framebuffer screen cursor budget .device)) ≡ Holds (runOf d ring framebuffer screen cursor budget .device)
+  run-held ring framebuffer screen cursor budget =
+      read-back _ (run-made d ring framebuffer screen cursor budget (held-words w d there .is-made))
