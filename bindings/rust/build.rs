@@ -44,7 +44,9 @@ fn repository_folder() -> PathBuf {
     }
     let wanted = folder.join(ARCHIVE);
     match Command::new("rt").args(["staticlib", "capi"]).current_dir(&root).output() {
-        Err(error) => give_up(&format!("{} does not stand, and `rt staticlib capi` cannot be started to make it: {error}", wanted.display())),
+        Err(error) => {
+            give_up(&format!("{} does not stand, and `rt staticlib capi` cannot be started to make it: {error}", wanted.display()))
+        }
         Ok(made) if !made.status.success() => give_up(&format!(
             "`rt staticlib capi` in {} ended with {}:\n{}{}",
             root.display(),

@@ -1,0 +1,214 @@
+//! A device that owns its memories.
+
+use crate::{reg, ring, Command, Device, Edges, Error, Lent, Memory, Run, CURSOR_WORDS};
+use std::fmt;
+
+/// A device with memories of its own, for hosts that drive it themselves, for tests and for small boards. A hypervisor that lends its
+/// guest's memory uses [`Device`].
+#[derive(Clone, PartialEq, Eq)]
+pub struct Adapter {
+    device: Device,
+    ring: Vec<u32>,
+    framebuffer: Vec<u32>,
+    screen: Vec<u32>,
+    cursor: Vec<u32>,
+    output: Vec<u32>,
+}
+
+/// A finished picture: the mode's pixels, row by row, 0x00RRGGBB.
+#[derive(Clone, Copy, Debug, PartialEq, Eq)]
+pub struct Picture<'a> {
+    /// The columns.
+    pub width: u32,
+    /// The rows.
+    pub height: u32,
+    /// `width · height` pixels.
+    pub pixels: &'a [u32],
+}
+
+impl<'a> Picture<'a> {
+    /// The pixel at (`x`, `y`), if it is in the picture.
+    pub fn pixel(&self, x: u32, y: u32) -> Option<u32> {
+        (x < self.width).then(|| self.pixels.get(y as usize * self.width as usize + x as usize).copied()).flatten()
+    }
+
+    /// The rows, from the top.
+    pub fn rows(&self) -> impl Iterator<Item = &'a [u32]> {
+        self.pixels.chunks(self.width.max(1) as usize)
+    }
+}
+
+impl Adapter {
+    /// Makes a device for a ring memory of `memory` bytes and for `pixels` pixels, with memories of zeros and an empty ring. Nothing is
+    /// enabled yet: see [`Adapter::start`].
+    ///
+    /// # Errors
+    ///
+    /// [`Error::BadSizes`], as [`Device::new`].
+    pub fn new(memory: u32, pixels: u32) -> Result<Adapter, Error> {
+        let device = Device::new(memory, pixels)?;
+        let plane = || vec![0; device.pixels()];
+        let mut ring = vec![0; device.ring_words()];
+        ring::reset(&mut ring);
+        Ok(Adapter { ring, framebuffer: plane(), screen: plane(), cursor: vec![0; CURSOR_WORDS], output: Vec::new(), device })
+    }
+
+    /// An adapter from a device and its memories, as they were saved.
+    ///
+    /// # Errors
+    ///
+    /// [`Error::Length`] where a memory has not the length that the device was made for.
+    pub fn from_parts(device: Device, ring: Vec<u32>, framebuffer: Vec<u32>, screen: Vec<u32>, cursor: Vec<u32>) -> Result<Adapter, Error> {
+        device.check_lengths(&[
+            (Memory::Ring, ring.len()),
+            (Memory::Framebuffer, framebuffer.len()),
+            (Memory::Screen, screen.len()),
+            (Memory::Cursor, cursor.len()),
+        ])?;
+        Ok(Adapter { device, ring, framebuffer, screen, cursor, output: Vec::new() })
+    }
+
+    /// Does what a driver does: sets the mode, enables the device, makes the ring empty and has it accepted.
+    ///
+    /// # Errors
+    ///
+    /// [`Error::BadValue`] for a mode outside 1 to 2,560 by 1 to 1,600; [`Error::ModeTooLarge`] for one above the device's pixels, which
+    /// then is set all the same.
+    pub fn start(&mut self, width: u32, height: u32) -> Result<(), Error> {
+        self.write(reg::WIDTH, width)?;
+        self.write(reg::HEIGHT, height)?;
+        self.write(reg::ENABLE, 1)?;
+        ring::reset(&mut self.ring);
+        self.write(reg::CONFIG_DONE, 1)?;
+        match self.run(0) {
+            Err(error @ Error::ModeTooLarge { .. }) => Err(error),
+            _ => Ok(()),
+        }
+    }
+
+    /// Writes a register: [`Device::write`].
+    ///
+    /// # Errors
+    ///
+    /// As [`Device::write`].
+    pub fn write(&mut self, index: u32, value: u32) -> Result<(), Error> {
+        self.device.write(&self.ring, index, value)
+    }
+
+    /// Reads a register: [`Device::read`].
+    ///
+    /// # Errors
+    ///
+    /// As [`Device::read`].
+    pub fn read(&self, index: u32) -> Result<u32, Error> {
+        self.device.read(index)
+    }
+
+    /// Appends one word to the ring: [`ring::append`].
+    ///
+    /// # Errors
+    ///
+    /// As [`ring::append`].
+    pub fn append(&mut self, word: u32) -> Result<(), Error> {
+        ring::append(&mut self.ring, word)
+    }
+
+    /// Appends a command's words. Where the ring is full, commands are run to make room, as a guest waits for it; the others wait for
+    /// the next run. The order of this work does not show: the screen is that of the commands one by one.
+    ///
+    /// # Errors
+    ///
+    /// As [`Command::words`], with nothing appended. Where room has to be made: as [`Device::run`], and [`Error::FaultStands`] if that
+    /// run ended in a fault; a part of the words may then stand in the ring.
+    pub fn submit(&mut self, command: &Command<'_>) -> Result<(), Error> {
+        for word in command.words()? {
+            while let Err(full) = self.append(word) {
+                let run = self.run(u32::MAX)?;
+                match run.fault() {
+                    Some(fault) => return Err(Error::FaultStands(fault)),
+                    None if run.count == 0 => return Err(full),
+                    None => {}
+                }
+            }
+        }
+        Ok(())
+    }
+
+    /// Runs at most `budget` commands: [`Device::run`].
+    ///
+    /// # Errors
+    ///
+    /// As [`Device::run`]; lengths are always right.
+    pub fn run(&mut self, budget: u32) -> Result<Run, Error> {
+        let Adapter { device, ring, framebuffer, screen, cursor, .. } = self;
+        device.run(Lent { ring, framebuffer, screen, cursor }, budget)
+    }
+
+    /// The picture: the screen with the cursor over it.
+    ///
+    /// # Errors
+    ///
+    /// [`Error::ModeTooLarge`].
+    pub fn picture(&mut self) -> Result<Picture<'_>, Error> {
+        self.output.resize(self.device.pixels(), 0);
+        self.device.picture(&self.screen, &self.cursor, &mut self.output)?;
+        let (width, height) = (self.device.width(), self.device.height());
+        Ok(Picture { width, height, pixels: &self.output[..width as usize * height as usize] })
+    }
+
+    /// The offscreen rectangle: [`Device::offscreen`].
+    pub fn offscreen(&self) -> Edges {
+        self.device.offscreen()
+    }
+
+    /// The last fence executed: [`Device::fence`].
+    pub fn fence(&self) -> u32 {
+        self.device.fence()
+    }
+
+    /// Whether a fence has passed: [`Device::fence_passed`].
+    pub fn fence_passed(&self, fence: u32) -> bool {
+        self.device.fence_passed(fence)
+    }
+
+    /// The device, with its words to be saved.
+    pub fn device(&self) -> &Device {
+        &self.device
+    }
+
+    /// The ring memory.
+    pub fn ring(&self) -> &[u32] {
+        &self.ring
+    }
+
+    /// The ring memory, for a guest to write: any content is safe.
+    pub fn ring_mut(&mut self) -> &mut [u32] {
+        &mut self.ring
+    }
+
+    /// The framebuffer.
+    pub fn framebuffer(&self) -> &[u32] {
+        &self.framebuffer
+    }
+
+    /// The framebuffer, for a guest to draw in: pixel (x, y) stands at y · width + x.
+    pub fn framebuffer_mut(&mut self) -> &mut [u32] {
+        &mut self.framebuffer
+    }
+
+    /// The screen, without the cursor.
+    pub fn screen(&self) -> &[u32] {
+        &self.screen
+    }
+
+    /// The cursor image.
+    pub fn cursor(&self) -> &[u32] {
+        &self.cursor
+    }
+}
+
+impl fmt::Debug for Adapter {
+    fn fmt(&self, f: &mut fmt::Formatter<'_>) -> fmt::Result {
+        f.debug_struct("Adapter").field("device", &self.device).finish_non_exhaustive()
+    }
+}
