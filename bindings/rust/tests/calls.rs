@@ -1,0 +1,469 @@
+//! Each call, taken and refused, through the safe types.
+
+mod common;
+use common::{append_all, fill, started, MEMORY, PIXELS};
+use svga::{cap, cmd, cursor_on, fifo, id, limit, reg, ring, rop};
+use svga::{Adapter, Command, Device, Edges, End, Error, Fault, Lent, Memory, Rect, Run, CURSOR_WORDS};
+
+fn run_of(end: End, count: u32) -> Result<Run, Error> {
+    Ok(Run { end, count })
+}
+
+// ---- making
+
+#[test]
+fn a_fresh_device() {
+    let device = Device::new(MEMORY, PIXELS).unwrap();
+    assert_eq!((device.memory(), device.ring_words(), device.pixels()), (10_256, 2_564, 1_024));
+    assert_eq!((device.width(), device.height()), (640, 480)); // the one test that reads the fresh mode
+    assert_eq!(device.read(reg::ID), Ok(id::ID_0));
+    for index in [reg::ENABLE, reg::CONFIG_DONE, reg::BUSY, reg::GUEST_ID, reg::CURSOR_ON] {
+        assert_eq!(device.read(index), Ok(0));
+    }
+    assert_eq!((device.fence(), device.fault()), (0, None));
+    assert!(device.fence_passed(0));
+}
+
+#[test]
+fn sizes_at_and_beyond_their_limits() {
+    for (memory, pixels) in [(MEMORY, 1), (limit::MEMORY_MAX, limit::PIXELS_MAX)] {
+        assert!(Device::new(memory, pixels).is_ok());
+    }
+    for (memory, pixels) in [(0, 1), (10_252, 1), (10_258, 1), (2_097_156, 1), (u32::MAX, 1), (MEMORY, 0), (MEMORY, 4_096_001)] {
+        assert_eq!(Device::new(memory, pixels), Err(Error::BadSizes { memory, pixels }));
+        assert_eq!(Adapter::new(memory, pixels), Err(Error::BadSizes { memory, pixels }));
+    }
+}
+
+// ---- registers
+
+#[test]
+fn registers_that_are_written_read_back() {
+    let mut device = Device::new(MEMORY, PIXELS).unwrap();
+    for (index, value) in [
+        (reg::ENABLE, 1),
+        (reg::WIDTH, 2_560),
+        (reg::HEIGHT, 1_600),
+        (reg::GUEST_ID, u32::MAX),
+        (reg::CURSOR_ID, 7),
+        (reg::CURSOR_X, u32::MAX),
+        (reg::CURSOR_Y, 12),
+        (reg::CURSOR_ON, cursor_on::RESTORE_TO_FB),
+        (reg::ID, id::ID_2),
+    ] {
+        assert_eq!(device.write(&[], index, value), Ok(()));
+        assert_eq!(device.read(index), Ok(value));
+    }
+    assert_eq!(device.write(&[], reg::ID, 0x9000_0003), Ok(()));
+    assert_eq!(device.read(reg::ID), Ok(id::ID_2), "an unknown id is taken and not stored");
+    assert_eq!(device.write(&[], reg::SYNC, 1), Ok(()));
+    assert_eq!((device.read(reg::SYNC), device.read(reg::BUSY)), (Ok(0), Ok(0)), "not configured: not busy");
+}
+
+#[test]
+fn registers_that_only_read() {
+    let mut adapter = started();
+    for (index, value) in [
+        (reg::MAX_WIDTH, 2_560),
+        (reg::MAX_HEIGHT, 1_600),
+        (reg::DEPTH, 24),
+        (reg::BITS_PER_PIXEL, 32),
+        (reg::PSEUDOCOLOR, 0),
+        (reg::RED_MASK, 0xFF_0000),
+        (reg::GREEN_MASK, 0xFF00),
+        (reg::BLUE_MASK, 0xFF),
+        (reg::BYTES_PER_LINE, 128),
+        (reg::FB_START, 0),
+        (reg::FB_OFFSET, 0),
+        (reg::VRAM_SIZE, 4_096),
+        (reg::FB_SIZE, 4_096),
+        (reg::CAPABILITIES, svga::CAPABILITIES),
+        (reg::MEM_START, 0),
+        (reg::MEM_SIZE, MEMORY),
+        (reg::BUSY, 0),
+        (reg::HOST_BITS_PER_PIXEL, 32),
+    ] {
+        assert_eq!(adapter.read(index), Ok(value), "register {index}");
+        assert_eq!(adapter.write(index, value), Err(Error::ReadOnly { index }));
+    }
+    assert_ne!(adapter.read(reg::CAPABILITIES).unwrap() & cap::ALPHA_CURSOR, 0);
+}
+
+#[test]
+fn registers_that_are_not_there() {
+    let mut adapter = started();
+    for index in [29, 30, 31, 1_024, u32::MAX] {
+        assert_eq!(adapter.read(index), Err(Error::NoRegister { index }));
+        assert_eq!(adapter.write(index, 0), Err(Error::NoRegister { index }));
+    }
+}
+
+#[test]
+fn values_outside_the_range_change_nothing() {
+    let mut adapter = started();
+    let before = adapter.clone();
+    for (index, value) in [
+        (reg::ENABLE, 2),
+        (reg::WIDTH, 0),
+        (reg::WIDTH, 2_561),
+        (reg::HEIGHT, 0),
+        (reg::HEIGHT, 1_601),
+        (reg::CONFIG_DONE, 2),
+        (reg::CURSOR_ON, 4),
+    ] {
+        assert_eq!(adapter.write(index, value), Err(Error::BadValue { index, value }));
+    }
+    assert_eq!(adapter, before);
+}
+
+#[test]
+fn a_ring_is_accepted_or_refused() {
+    let mut device = Device::new(MEMORY, PIXELS).unwrap();
+    let mut memory = vec![0; 2_564];
+    ring::reset(&mut memory);
+    assert_eq!(memory[..4], [16, 10_256, 16, 16]);
+    let short = Error::Length { memory: Memory::Ring, lent: 2_563, wanted: 2_564 };
+    assert_eq!(device.write(&memory[1..], reg::CONFIG_DONE, 1), Err(short));
+    assert_eq!(device.write(&memory[1..], reg::CONFIG_DONE, 0), Ok(()), "only 1 looks at the ring");
+    for (place, value) in [
+        (fifo::MIN, 12),
+        (fifo::MIN, 18),
+        (fifo::MIN, 20),
+        (fifo::MAX, 10_260),
+        (fifo::MAX, 10_252),
+        (fifo::NEXT_CMD, 12),
+        (fifo::NEXT_CMD, 10_256),
+        (fifo::NEXT_CMD, 18),
+        (fifo::STOP, 0),
+        (fifo::STOP, u32::MAX - 3),
+    ] {
+        let mut bad = memory.clone();
+        bad[place as usize] = value;
+        let refused = device.write(&bad, reg::CONFIG_DONE, 1);
+        let &[min, max, next_cmd, stop, ..] = &bad[..] else { unreachable!() };
+        assert_eq!(refused, Err(Error::RingRefused { min, max, next_cmd, stop, memory: MEMORY }));
+        assert_eq!(device.read(reg::CONFIG_DONE), Ok(0));
+    }
+    assert_eq!(device.write(&memory, reg::CONFIG_DONE, 1), Ok(()));
+    assert_eq!(device.read(reg::CONFIG_DONE), Ok(1));
+}
+
+#[test]
+fn busy_from_sync_until_drained() {
+    let mut adapter = started();
+    adapter.submit(&Command::Fence(1)).unwrap();
+    adapter.submit(&Command::Fence(2)).unwrap();
+    adapter.write(reg::SYNC, 0).unwrap();
+    assert_eq!(adapter.read(reg::BUSY), Ok(1));
+    assert_eq!(adapter.run(1), run_of(End::Spent, 1));
+    assert_eq!(adapter.read(reg::BUSY), Ok(1), "a spent budget keeps it");
+    assert_eq!(adapter.run(9), run_of(End::Drained, 1));
+    assert_eq!(adapter.read(reg::BUSY), Ok(0));
+}
+
+// ---- runs
+
+#[test]
+fn runs_end_where_the_rules_say() {
+    let mut adapter = started();
+    assert_eq!(adapter.run(9), run_of(End::Drained, 0));
+    assert_eq!(adapter.run(0), run_of(End::Spent, 0));
+    adapter.submit(&fill(255, 30, 31, u32::MAX, 5)).unwrap();
+    assert_eq!(adapter.run(1), run_of(End::Spent, 1));
+    assert_eq!(adapter.run(1), run_of(End::Drained, 0));
+    assert_eq!(adapter.screen()[1_021..], [0, 255, 255]);
+    adapter.append(cmd::FENCE).unwrap();
+    assert_eq!(adapter.run(9), run_of(End::Waiting, 0));
+    adapter.append(77).unwrap();
+    assert_eq!(adapter.run(9), run_of(End::Drained, 1));
+    assert_eq!(adapter.fence(), 77);
+    assert_eq!(adapter.ring()[fifo::STOP as usize], adapter.ring()[fifo::NEXT_CMD as usize]);
+}
+
+#[test]
+fn faults_stand_until_a_ring_is_accepted() {
+    let bad_cursor = [cmd::DEFINE_ALPHA_CURSOR, 1, 0, 0, 65, 1];
+    let long_cursor = [cmd::DEFINE_ALPHA_CURSOR, 1, 0, 0, 51, 51];
+    let bad_rop = [cmd::RECT_ROP_FILL, 1, 0, 0, 1, 1, 16];
+    let long_escape = [cmd::ESCAPE, 0, 10_225];
+    for (words, fault) in [
+        (&[20][..], Fault::NotOffered),
+        (&[0], Fault::NotOffered),
+        (&bad_cursor, Fault::BadOperand),
+        (&bad_rop, Fault::BadOperand),
+        (&long_cursor, Fault::TooLong),
+        (&long_escape, Fault::TooLong),
+    ] {
+        let mut adapter = started();
+        adapter.submit(&fill(1, 0, 0, 1, 1)).unwrap();
+        append_all(&mut adapter, words);
+        let run = adapter.run(9).unwrap();
+        assert_eq!((run.fault(), run.count), (Some(fault), 1), "{words:?}");
+        assert_eq!(adapter.screen()[0], 1, "what came before is done");
+        assert_eq!(adapter.ring()[fifo::STOP as usize], 16 + 6 * 4, "nothing of the command is consumed");
+        assert_eq!(adapter.device().fault(), Some(fault));
+        let faulted = adapter.clone();
+        assert_eq!(adapter.run(9), Err(Error::FaultStands(fault)));
+        assert_eq!(adapter, faulted);
+        ring::reset(adapter.ring_mut());
+        adapter.write(reg::CONFIG_DONE, 1).unwrap();
+        assert_eq!(adapter.device().fault(), None);
+        assert_eq!(adapter.run(9), run_of(End::Drained, 0));
+    }
+}
+
+#[test]
+fn a_next_cmd_that_is_no_place_of_the_ring() {
+    for place in [18, 10_256, 12, u32::MAX] {
+        let mut adapter = started();
+        adapter.ring_mut()[fifo::NEXT_CMD as usize] = place;
+        assert_eq!(adapter.run(1), run_of(End::Fault(Fault::BadNextCmd), 0), "NEXT_CMD {place}");
+    }
+}
+
+#[test]
+fn what_a_guest_writes_to_the_rings_ends_later_is_not_read() {
+    let mut adapter = started();
+    adapter.submit(&Command::Fence(5)).unwrap();
+    let next = adapter.ring()[fifo::NEXT_CMD as usize];
+    adapter.ring_mut()[..4].copy_from_slice(&[u32::MAX, 3, next, 0]);
+    assert_eq!(adapter.run(9), run_of(End::Drained, 1));
+    assert_eq!(adapter.ring()[..4], [u32::MAX, 3, next, next]);
+    assert_eq!(adapter.fence(), 5);
+}
+
+#[test]
+fn refusals_of_a_run_come_in_order() {
+    let mut device = Device::new(MEMORY, PIXELS).unwrap();
+    let (mut memory, framebuffer, mut screen, mut cursor) = (vec![0; 2_564], vec![0; 1_024], vec![0; 1_024], vec![0; CURSOR_WORDS]);
+    ring::reset(&mut memory);
+    memory[fifo::NEXT_CMD as usize] = 20;
+    memory[4] = 20; // a command that is not offered
+    macro_rules! run {
+        () => {
+            device.run(Lent { ring: &mut memory, framebuffer: &framebuffer, screen: &mut screen, cursor: &mut cursor }, 9)
+        };
+    }
+    device.write(&[], reg::WIDTH, 33).unwrap();
+    device.write(&[], reg::HEIGHT, 32).unwrap();
+    assert_eq!(run!(), Err(Error::NotConfigured));
+    device.write(&memory, reg::CONFIG_DONE, 1).unwrap();
+    assert_eq!(run!(), Err(Error::Disabled));
+    device.write(&[], reg::ENABLE, 1).unwrap();
+    assert_eq!(run!(), Err(Error::ModeTooLarge { width: 33, height: 32, pixels: 1_024 }));
+    device.write(&[], reg::WIDTH, 32).unwrap();
+    assert_eq!(run!(), run_of(End::Fault(Fault::NotOffered), 0));
+    assert_eq!(run!(), Err(Error::FaultStands(Fault::NotOffered)));
+    device.write(&[], reg::WIDTH, 33).unwrap();
+    assert_eq!(run!(), Err(Error::ModeTooLarge { width: 33, height: 32, pixels: 1_024 }));
+    device.write(&[], reg::ENABLE, 0).unwrap();
+    assert_eq!(run!(), Err(Error::Disabled));
+    device.write(&[], reg::CONFIG_DONE, 0).unwrap();
+    assert_eq!(run!(), Err(Error::NotConfigured));
+}
+
+#[test]
+fn a_run_names_the_memory_that_has_another_length() {
+    let mut device = Device::new(MEMORY, PIXELS).unwrap();
+    let lengths = [2_564, 1_024, 1_024, CURSOR_WORDS];
+    let names = [Memory::Ring, Memory::Framebuffer, Memory::Screen, Memory::Cursor];
+    for which in 0..4 {
+        for wrong in [0, lengths[which] - 1, lengths[which] + 1] {
+            let mut lent = lengths;
+            lent[which] = wrong;
+            let [ring, framebuffer, screen, cursor] = &mut lent.map(|length| vec![0; length]);
+            let error = device.run(Lent { ring, framebuffer, screen, cursor }, 1).unwrap_err();
+            assert_eq!(error, Error::Length { memory: names[which], lent: wrong, wanted: lengths[which] });
+        }
+    }
+}
+
+// ---- commands
+
+#[test]
+fn updates_fills_and_copies() {
+    let mut adapter = Adapter::new(MEMORY, 4).unwrap();
+    adapter.start(4, 1).unwrap();
+    adapter.framebuffer_mut().copy_from_slice(&[1, 2, 3, 4]);
+    adapter.submit(&Command::Update(Rect::new(0, 0, 4, 1))).unwrap();
+    adapter.submit(&Command::RectCopy { sx: 0, sy: 0, to: Rect::new(1, 0, 4, 1) }).unwrap();
+    assert_eq!(adapter.run(9), run_of(End::Drained, 2));
+    assert_eq!(adapter.screen(), [1, 1, 2, 3], "all sources are read before any is written");
+    adapter.submit(&Command::UpdateVerbose { area: Rect::new(0, 0, 4, 1), reason: 9 }).unwrap();
+    adapter.submit(&Command::RectRopCopy { sx: 2, sy: 0, to: Rect::new(0, 0, 4, 1), rop: rop::COPY }).unwrap();
+    assert_eq!(adapter.run(9), run_of(End::Drained, 2));
+    assert_eq!(adapter.screen(), [3, 4, 3, 4], "an offset moves if its source and its destination are in the mode");
+    adapter.submit(&Command::RectRopFill { colour: 5, to: Rect::new(0, 0, 1, 1), rop: rop::XOR }).unwrap();
+    adapter.submit(&Command::RectRopFill { colour: 5, to: Rect::new(2, 0, 1, 1), rop: rop::AND_REVERSE }).unwrap();
+    adapter.submit(&fill(9, 0, u32::MAX, 4, 2)).unwrap();
+    adapter.submit(&Command::Escape { namespace: 1, data: b"no effect" }).unwrap();
+    assert_eq!(adapter.run(9), run_of(End::Drained, 4));
+    assert_eq!(adapter.screen(), [6, 4, 4, 4]);
+    assert_eq!(adapter.framebuffer(), [1, 2, 3, 4], "no command changes the framebuffer");
+}
+
+#[test]
+fn every_raster_operation_follows_the_bit_rule() {
+    let (source, below) = (0b0011, 0b0101);
+    for number in 0..16 {
+        let mut adapter = Adapter::new(MEMORY, 1).unwrap();
+        adapter.start(1, 1).unwrap();
+        adapter.submit(&fill(below, 0, 0, 1, 1)).unwrap();
+        adapter.submit(&Command::RectRopFill { colour: source, to: Rect::new(0, 0, 1, 1), rop: number }).unwrap();
+        assert_eq!(adapter.run(9), run_of(End::Drained, 2));
+        let bits = |s: u32, d: u32| number >> (3 - 2 * s - d) & 1; // bit 0 for 1, 1; bit 1 for 1, 0; bit 2 for 0, 1; bit 3 for 0, 0
+        let expected = (0..32).fold(0, |word, bit| word | bits(source >> bit & 1, below >> bit & 1) << bit);
+        assert_eq!(adapter.screen(), [expected], "rop {number}");
+    }
+}
+
+#[test]
+fn the_words_of_commands() {
+    let area = Rect::new(1, 2, 3, 4);
+    let words = |command: Command<'_>| command.words().unwrap();
+    assert_eq!(words(Command::Update(area)), [1, 1, 2, 3, 4]);
+    assert_eq!(words(Command::RectFill { colour: 9, to: area }), [2, 9, 1, 2, 3, 4]);
+    assert_eq!(words(Command::RectCopy { sx: 7, sy: 8, to: area }), [3, 7, 8, 1, 2, 3, 4]);
+    assert_eq!(words(Command::RectRopFill { colour: 9, to: area, rop: 6 }), [13, 9, 1, 2, 3, 4, 6]);
+    assert_eq!(words(Command::RectRopCopy { sx: 7, sy: 8, to: area, rop: 6 }), [14, 7, 8, 1, 2, 3, 4, 6]);
+    assert_eq!(words(Command::UpdateVerbose { area, reason: 5 }), [25, 1, 2, 3, 4, 5]);
+    assert_eq!(words(Command::Fence(6)), [30, 6]);
+    assert_eq!(words(Command::Escape { namespace: 7, data: &[] }), [33, 7, 0]);
+    assert_eq!(words(Command::Escape { namespace: 7, data: &[1, 2, 3, 4, 5] }), [33, 7, 5, 0x0403_0201, 5]);
+    let cursor = Command::DefineAlphaCursor { id: 1, hotx: 2, hoty: 0, w: 3, h: 1, pixels: &[4, 5, 6] };
+    assert_eq!(words(cursor), [22, 1, 2, 0, 3, 1, 4, 5, 6]);
+    let short = Command::DefineAlphaCursor { id: 1, hotx: 0, hoty: 0, w: 2, h: 2, pixels: &[4, 5, 6] };
+    assert_eq!(short.words(), Err(Error::Length { memory: Memory::CursorPixels, lent: 3, wanted: 4 }));
+}
+
+#[test]
+fn submit_runs_where_the_ring_is_full() {
+    let mut adapter = started();
+    for number in 1..=2_000 {
+        adapter.submit(&Command::Fence(number)).unwrap(); // 4,000 words through a ring that carries 2,559
+    }
+    assert!(adapter.run(u32::MAX).unwrap().count < 2_000);
+    assert_eq!(adapter.fence(), 2_000);
+
+    let pixels = vec![0; 51 * 51];
+    let too_long = Command::DefineAlphaCursor { id: 0, hotx: 0, hoty: 0, w: 51, h: 51, pixels: &pixels };
+    assert_eq!(adapter.submit(&too_long), Err(Error::FaultStands(Fault::TooLong)), "it never just waits");
+
+    let mut adapter = started();
+    adapter.ring_mut()[fifo::MIN as usize] = 2; // the guest's own append reads it
+    assert_eq!(adapter.submit(&Command::Fence(1)), Err(Error::AppendRefused));
+}
+
+#[test]
+fn append_fills_the_ring_but_for_one_word() {
+    let mut memory = vec![0; 2_564];
+    ring::reset(&mut memory);
+    for word in 0..2_559 {
+        assert_eq!(ring::append(&mut memory, word), Ok(()));
+    }
+    let full = memory.clone();
+    assert_eq!(ring::append(&mut memory, 1), Err(Error::AppendRefused));
+    assert_eq!(memory, full);
+    assert_eq!(ring::append(&mut [], 1), Err(Error::AppendRefused));
+    let mut tiny = [0; 3];
+    ring::reset(&mut tiny);
+    assert_eq!(tiny, [0; 3]);
+}
+
+// ---- cursor and pictures
+
+fn with_cursor() -> Adapter {
+    let mut adapter = started();
+    adapter.submit(&fill(0x20_4060, 0, 0, 32, 32)).unwrap();
+    let pixels = [0xFFFF_0000, 0x8000_00FF, 0x0012_3456, 0xFF00_FF00];
+    adapter.submit(&Command::DefineAlphaCursor { id: 3, hotx: 1, hoty: 0, w: 2, h: 2, pixels: &pixels }).unwrap();
+    assert_eq!(adapter.run(9), run_of(End::Drained, 2));
+    for (index, value) in [(reg::CURSOR_ID, 3), (reg::CURSOR_X, 10), (reg::CURSOR_Y, 20), (reg::CURSOR_ON, cursor_on::SHOW)] {
+        adapter.write(index, value).unwrap();
+    }
+    adapter
+}
+
+#[test]
+fn a_picture_has_the_cursor_over_the_screen() {
+    let mut adapter = with_cursor();
+    let blend = |a: u32, over: u32, below: u32| (a * over + (255 - a) * below + 127) / 255;
+    let half = blend(128, 0, 0x20) << 16 | blend(128, 0, 0x40) << 8 | blend(128, 255, 0x60);
+    let picture = adapter.picture().unwrap();
+    assert_eq!((picture.width, picture.height, picture.pixels.len(), picture.rows().count()), (32, 32, 1_024, 32));
+    assert_eq!(picture.pixel(9, 20), Some(0xFF_0000));
+    assert_eq!(picture.pixel(10, 20), Some(half));
+    assert_eq!(picture.pixel(9, 21), Some(0x20_4060));
+    assert_eq!(picture.pixel(10, 21), Some(0xFF00));
+    assert_eq!(picture.pixel(11, 21), Some(0x20_4060));
+    assert_eq!((picture.pixel(32, 0), picture.pixel(0, 32)), (None, None));
+    assert!(adapter.screen().iter().all(|&pixel| pixel == 0x20_4060), "the screen has no cursor");
+
+    adapter.write(reg::CURSOR_X, 0).unwrap(); // moves nothing until CURSOR_ON is written
+    assert_eq!(adapter.picture().unwrap().pixel(9, 20), Some(0xFF_0000));
+    adapter.write(reg::CURSOR_ON, cursor_on::SHOW).unwrap(); // now column −1 is cut
+    assert_eq!(adapter.picture().unwrap().pixel(0, 21), Some(0xFF00));
+    adapter.write(reg::CURSOR_ON, cursor_on::HIDE).unwrap();
+    assert!(adapter.picture().unwrap().pixels.iter().all(|&pixel| pixel == 0x20_4060));
+}
+
+#[test]
+fn a_picture_is_refused() {
+    let adapter = with_cursor();
+    let (device, screen, cursor) = (adapter.device(), adapter.screen(), adapter.cursor());
+    let mut output = vec![7; 1_024];
+    let length = |memory, lent, wanted| Err(Error::Length { memory, lent, wanted });
+    assert_eq!(device.picture(&screen[1..], cursor, &mut output), length(Memory::Screen, 1_023, 1_024));
+    assert_eq!(device.picture(screen, &cursor[1..], &mut output), length(Memory::Cursor, 4_095, 4_096));
+    assert_eq!(device.picture(screen, cursor, &mut output[1..]), length(Memory::Output, 1_023, 1_024));
+    let mut large = device.clone();
+    large.write(&[], reg::HEIGHT, 33).unwrap();
+    assert_eq!(large.picture(screen, cursor, &mut output), Err(Error::ModeTooLarge { width: 32, height: 33, pixels: 1_024 }));
+    assert_eq!(large.picture(screen, &[], &mut output), length(Memory::Cursor, 0, 4_096), "lengths come first");
+    assert!(output.iter().all(|&word| word == 7), "a refused picture writes nothing");
+
+    let mut small = device.clone();
+    small.write(&[], reg::HEIGHT, 31).unwrap();
+    small.picture(screen, cursor, &mut output).unwrap();
+    assert!(output[31 * 32..].iter().all(|&word| word == 7), "words beyond the mode stay");
+}
+
+// ---- offscreen rectangle and fences
+
+#[test]
+fn the_offscreen_rectangle() {
+    let mut device = Device::new(MEMORY, 1_024 * 100).unwrap();
+    device.write(&[], reg::WIDTH, 1_024).unwrap();
+    device.write(&[], reg::HEIGHT, 60).unwrap();
+    let Edges { left, top, bottom, .. } = device.offscreen();
+    assert_eq!((left, top, bottom), (0, 60, 100));
+    assert!(!device.offscreen().is_empty());
+    device.write(&[], reg::HEIGHT, 100).unwrap();
+    assert!(device.offscreen().is_empty());
+    device.write(&[], reg::HEIGHT, 101).unwrap();
+    assert_eq!((device.offscreen().top, device.offscreen().bottom), (101, 100), "edges as they come out");
+    assert!(device.offscreen().is_empty());
+}
+
+#[test]
+fn fences_pass_and_wrap() {
+    let mut adapter = started();
+    adapter.submit(&Command::Fence(1)).unwrap();
+    assert!(!adapter.fence_passed(1));
+    assert_eq!(adapter.run(1), run_of(End::Spent, 1));
+    assert_eq!(adapter.fence(), 1);
+    assert!(adapter.fence_passed(1) && adapter.fence_passed(0) && adapter.fence_passed(u32::MAX));
+    assert!(!adapter.fence_passed(2) && !adapter.fence_passed(0x8000_0001));
+    assert!(adapter.fence_passed(0x8000_0002));
+}
+
+// ---- starting
+
+#[test]
+fn start_refuses_a_mode_that_does_not_fit() {
+    let mut adapter = Adapter::new(MEMORY, PIXELS).unwrap();
+    assert_eq!(adapter.start(0, 1), Err(Error::BadValue { index: reg::WIDTH, value: 0 }));
+    assert_eq!(adapter.start(33, 32), Err(Error::ModeTooLarge { width: 33, height: 32, pixels: 1_024 }));
+    assert_eq!(adapter.start(32, 32), Ok(()));
+    assert_eq!(adapter.run(1), run_of(End::Drained, 0));
+}
