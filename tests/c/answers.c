@@ -1,0 +1,189 @@
+// Every call of svga.h from C, taken and refused, as the header tells it. Prints 'failed: ..' for each line that does not hold.
+#include "svga.h"
+
+#include <stdio.h>
+#include <string.h>
+
+enum { MEMORY = 10256, WORDS = MEMORY / 4, PIXELS = 12, WIDTH = 4, HEIGHT = 3 };
+
+static uint32_t device[SVGA_DEVICE_WORDS], ring[WORDS], framebuffer[PIXELS], screen[PIXELS], cursor[SVGA_CURSOR_WORDS], output[PIXELS];
+static int checks, failures;
+
+static void check(int line, const char *what, uint64_t is, uint64_t should) {
+    checks++;
+    if (is == should) return;
+    failures++;
+    printf("failed: answers.c:%d: %s is %llu, not %llu\n", line, what, (unsigned long long)is, (unsigned long long)should);
+}
+#define IS(what, should) check(__LINE__, #what, (uint64_t)(what), (uint64_t)(should))
+
+static uint64_t both(uint32_t answer, uint32_t value) { return (uint64_t)answer << 32 | value; }
+static uint32_t put(uint32_t index, uint32_t value) { return svga_write(device, SVGA_DEVICE_WORDS, ring, WORDS, index, value); }
+static uint64_t get(uint32_t index) { return svga_read(device, SVGA_DEVICE_WORDS, index); }
+static uint64_t run(uint32_t budget) {
+    return svga_run(device, SVGA_DEVICE_WORDS, ring, WORDS, framebuffer, PIXELS, screen, PIXELS, cursor, SVGA_CURSOR_WORDS, budget);
+}
+static uint32_t picture(void) {
+    return svga_picture(device, SVGA_DEVICE_WORDS, screen, PIXELS, cursor, SVGA_CURSOR_WORDS, output, PIXELS);
+}
+static void reset_ring(void) {
+    ring[SVGA_FIFO_MIN] = ring[SVGA_FIFO_NEXT_CMD] = ring[SVGA_FIFO_STOP] = SVGA_FIFO_START_MIN;
+    ring[SVGA_FIFO_MAX] = MEMORY;
+}
+static void append(int line, const uint32_t *words, size_t count) {
+    for (size_t i = 0; i < count; i++) check(line, "append", svga_append(ring, WORDS, words[i]), SVGA_APPEND_TAKEN);
+}
+#define APPEND(...)                                                  \
+    do {                                                             \
+        const uint32_t words[] = {__VA_ARGS__};                      \
+        append(__LINE__, words, sizeof words / sizeof words[0]);     \
+    } while (0)
+
+static void making(void) {
+    IS(svga_make(device, 63, MEMORY, PIXELS), SVGA_ANSWER_LENT_LENGTH);
+    IS(svga_make(NULL, 0, MEMORY, PIXELS), SVGA_ANSWER_LENT_LENGTH);
+    IS(svga_make(device, SVGA_DEVICE_WORDS, SVGA_MEMORY_MIN - 4, PIXELS), SVGA_ANSWER_BAD_SIZES);
+    IS(svga_make(device, SVGA_DEVICE_WORDS, SVGA_MEMORY_MAX + 4, PIXELS), SVGA_ANSWER_BAD_SIZES);
+    IS(svga_make(device, SVGA_DEVICE_WORDS, MEMORY, SVGA_PIXELS_MIN - 1), SVGA_ANSWER_BAD_SIZES);
+    IS(svga_make(device, SVGA_DEVICE_WORDS, MEMORY, SVGA_PIXELS_MAX + 1), SVGA_ANSWER_BAD_SIZES);
+    IS(get(SVGA_REG_ID), both(SVGA_ANSWER_NO_REGISTER, 0)); // nothing was made: zeros are no device
+    IS(svga_make(device, SVGA_DEVICE_WORDS, SVGA_MEMORY_MAX, SVGA_PIXELS_MAX), SVGA_ANSWER_TAKEN);
+    IS(svga_make(device, SVGA_DEVICE_WORDS, MEMORY, PIXELS), SVGA_ANSWER_TAKEN);
+    IS(get(SVGA_REG_ID), both(SVGA_ANSWER_TAKEN, SVGA_ID_0));
+}
+
+static void registers(void) {
+    IS(svga_write(device, SVGA_DEVICE_WORDS, NULL, 0, SVGA_REG_WIDTH, WIDTH), SVGA_ANSWER_TAKEN); // no ring is needed
+    IS(put(SVGA_REG_HEIGHT, HEIGHT), SVGA_ANSWER_TAKEN);
+    IS(put(SVGA_REG_WIDTH, SVGA_WIDTH_MAX + 1), SVGA_ANSWER_BAD_VALUE);
+    IS(put(SVGA_REG_HEIGHT, SVGA_HEIGHT_MAX + 1), SVGA_ANSWER_BAD_VALUE);
+    IS(put(SVGA_REG_BITS_PER_PIXEL, 32), SVGA_ANSWER_READ_ONLY);
+    IS(put(29, 0), SVGA_ANSWER_NO_REGISTER);
+    IS(get(29), both(SVGA_ANSWER_NO_REGISTER, 0));
+    IS(get(SVGA_REG_FB_SIZE), both(SVGA_ANSWER_TAKEN, 4 * WIDTH * HEIGHT));
+    IS(get(SVGA_REG_CAPABILITIES), both(SVGA_ANSWER_TAKEN, SVGA_CAPABILITIES));
+    IS(put(SVGA_REG_ID, SVGA_ID_2), SVGA_ANSWER_TAKEN);
+    IS(put(SVGA_REG_ID, SVGA_ID_2 + 1), SVGA_ANSWER_TAKEN);
+    IS(svga_value_of(get(SVGA_REG_ID)), SVGA_ID_2);
+    IS(svga_read(device, 65, SVGA_REG_ID), both(SVGA_ANSWER_LENT_LENGTH, 0));
+    IS(svga_write(device, 65, ring, WORDS, SVGA_REG_WIDTH, WIDTH), SVGA_ANSWER_LENT_LENGTH);
+}
+
+static void starting(void) {
+    IS(run(1), both(SVGA_ANSWER_NOT_CONFIGURED, 0));
+    IS(put(SVGA_REG_CONFIG_DONE, 1), SVGA_ANSWER_RING_REFUSED); // zeros are no ring
+    IS(svga_append(ring, WORDS, 1), SVGA_APPEND_REFUSED);
+    reset_ring();
+    IS(svga_write(device, SVGA_DEVICE_WORDS, ring, WORDS - 1, SVGA_REG_CONFIG_DONE, 1), SVGA_ANSWER_LENT_LENGTH);
+    IS(put(SVGA_REG_CONFIG_DONE, 2), SVGA_ANSWER_BAD_VALUE);
+    IS(put(SVGA_REG_CONFIG_DONE, 1), SVGA_ANSWER_TAKEN);
+    IS(run(1), both(SVGA_ANSWER_DISABLED, 0));
+    IS(put(SVGA_REG_ENABLE, 1), SVGA_ANSWER_TAKEN);
+    IS(put(SVGA_REG_HEIGHT, HEIGHT + 1), SVGA_ANSWER_TAKEN);
+    IS(run(1), both(SVGA_ANSWER_MODE_TOO_LARGE, 0));
+    IS(picture(), SVGA_ANSWER_MODE_TOO_LARGE);
+    IS(put(SVGA_REG_HEIGHT, HEIGHT), SVGA_ANSWER_TAKEN);
+    IS(run(1), both(SVGA_ANSWER_DRAINED, 0));
+    IS(run(0), both(SVGA_ANSWER_SPENT, 0));
+    IS(svga_run(device, SVGA_DEVICE_WORDS, ring, WORDS, framebuffer, PIXELS, screen, PIXELS, cursor, SVGA_CURSOR_WORDS - 1, 1),
+       both(SVGA_ANSWER_LENT_LENGTH, 0));
+    IS(svga_run(device, SVGA_DEVICE_WORDS, ring, WORDS, NULL, 0, screen, PIXELS, cursor, SVGA_CURSOR_WORDS, 1), both(SVGA_ANSWER_LENT_LENGTH, 0));
+}
+
+static void drawing(void) {
+    framebuffer[0] = 0xA0B0C0;
+    APPEND(SVGA_CMD_UPDATE, 0, 0, 1, 1);
+    APPEND(SVGA_CMD_RECT_FILL, 7, 3, 2, UINT32_MAX, UINT32_MAX);
+    APPEND(SVGA_CMD_RECT_COPY, 0, 0, 1, 0, 4, 1);
+    APPEND(SVGA_CMD_RECT_ROP_FILL, 5, 3, 2, 1, 1, SVGA_ROP_XOR);
+    APPEND(SVGA_CMD_DEFINE_ALPHA_CURSOR, 9, 0, 0, 1, 1, 0x80FFFFFFu);
+    APPEND(SVGA_CMD_ESCAPE, 0, 5, 0, 0);
+    APPEND(SVGA_CMD_FENCE, 77);
+    APPEND(SVGA_CMD_FENCE);
+    IS(run(3), both(SVGA_ANSWER_SPENT, 3));
+    IS(svga_fence_passed(device, SVGA_DEVICE_WORDS, 77), both(SVGA_ANSWER_TAKEN, 0));
+    IS(run(99), both(SVGA_ANSWER_WAITING, 4));
+    IS(svga_fence(device, SVGA_DEVICE_WORDS), both(SVGA_ANSWER_TAKEN, 77));
+    IS(svga_fence_passed(device, SVGA_DEVICE_WORDS, 77), both(SVGA_ANSWER_TAKEN, 1));
+    IS(screen[0], 0xA0B0C0);
+    IS(screen[1], 0xA0B0C0);
+    IS(screen[2], 0);
+    IS(screen[11], 7 ^ 5);
+    IS(ring[SVGA_FIFO_NEXT_CMD] - ring[SVGA_FIFO_STOP], 4);
+
+    IS(put(SVGA_REG_CURSOR_ID, 9), SVGA_ANSWER_TAKEN);
+    IS(put(SVGA_REG_CURSOR_X, 3), SVGA_ANSWER_TAKEN);
+    IS(put(SVGA_REG_CURSOR_Y, 0), SVGA_ANSWER_TAKEN);
+    IS(put(SVGA_REG_CURSOR_ON, SVGA_CURSOR_ON_SHOW), SVGA_ANSWER_TAKEN);
+    IS(picture(), SVGA_ANSWER_TAKEN);
+    IS(output[0], 0xA0B0C0);
+    IS(output[3], 0x808080);
+    IS(svga_picture(device, SVGA_DEVICE_WORDS, screen, PIXELS, cursor, SVGA_CURSOR_WORDS, output, PIXELS - 1), SVGA_ANSWER_LENT_LENGTH);
+
+    uint32_t edges[SVGA_EDGES_WORDS] = {9, 9, 9, 9};
+    IS(svga_offscreen(device, SVGA_DEVICE_WORDS, edges, SVGA_EDGES_WORDS - 1), SVGA_ANSWER_LENT_LENGTH);
+    IS(edges[0], 9);
+    IS(svga_offscreen(device, SVGA_DEVICE_WORDS, edges, SVGA_EDGES_WORDS), SVGA_ANSWER_TAKEN);
+    IS(edges[1], HEIGHT);
+}
+
+static void saving(void) {
+    uint32_t saved[SVGA_DEVICE_WORDS];
+    memcpy(saved, device, sizeof saved);
+    memset(device, 0xFF, sizeof device);
+    IS(get(SVGA_REG_ID), both(SVGA_ANSWER_NO_REGISTER, 0));
+    IS(put(SVGA_REG_WIDTH, WIDTH), SVGA_ANSWER_NO_REGISTER);
+    IS(run(1), both(SVGA_ANSWER_NOT_CONFIGURED, 0));
+    IS(picture(), SVGA_ANSWER_MODE_TOO_LARGE);
+    IS(svga_fence(device, SVGA_DEVICE_WORDS), both(SVGA_ANSWER_NO_REGISTER, 0));
+    IS(svga_fence_passed(device, SVGA_DEVICE_WORDS, 0), both(SVGA_ANSWER_NO_REGISTER, 0));
+    memcpy(device, saved, sizeof device);
+    device[63] = 1; // a spare word
+    IS(get(SVGA_REG_ID), both(SVGA_ANSWER_NO_REGISTER, 0));
+    device[63] = 0;
+    IS(run(9), both(SVGA_ANSWER_WAITING, 0));
+    APPEND(78);
+    IS(run(9), both(SVGA_ANSWER_DRAINED, 1));
+    IS(svga_value_of(svga_fence(device, SVGA_DEVICE_WORDS)), 78);
+}
+
+static void faults(void) {
+    APPEND(20);
+    IS(run(9), both(SVGA_ANSWER_NOT_OFFERED, 0));
+    IS(svga_is_fault(svga_answer_of(run(9))), 0);
+    IS(svga_is_refusal(svga_answer_of(run(9))), 1);
+    IS(run(9), both(SVGA_ANSWER_FAULT_STANDS, 0));
+    IS(device[24], SVGA_ANSWER_NOT_OFFERED);
+    reset_ring();
+    IS(put(SVGA_REG_CONFIG_DONE, 1), SVGA_ANSWER_TAKEN);
+    APPEND(SVGA_CMD_DEFINE_ALPHA_CURSOR, 1, 0, 0, SVGA_CURSOR_SIDE_MAX + 1, 1);
+    IS(run(9), both(SVGA_ANSWER_BAD_OPERAND, 0));
+    reset_ring();
+    IS(put(SVGA_REG_CONFIG_DONE, 1), SVGA_ANSWER_TAKEN);
+    APPEND(SVGA_CMD_FENCE, 1, SVGA_CMD_ESCAPE, 0, 10225);
+    IS(run(9), both(SVGA_ANSWER_TOO_LONG, 1));
+    reset_ring();
+    IS(put(SVGA_REG_CONFIG_DONE, 1), SVGA_ANSWER_TAKEN);
+    ring[SVGA_FIFO_NEXT_CMD] = MEMORY;
+    IS(svga_is_fault(svga_answer_of(run(9))), 1);
+    IS(device[24], SVGA_ANSWER_BAD_NEXT_CMD);
+}
+
+static void appending(void) {
+    reset_ring();
+    for (uint32_t i = 0; i < WORDS - 4 - 1; i++) IS(svga_append(ring, WORDS, i), SVGA_APPEND_TAKEN);
+    IS(svga_append(ring, WORDS, 0), SVGA_APPEND_REFUSED);
+    IS(svga_append(NULL, 0, 0), SVGA_APPEND_REFUSED);
+}
+
+int main(void) {
+    making();
+    registers();
+    starting();
+    drawing();
+    saving();
+    faults();
+    appending();
+    printf("answers: %d checks, %d failed\n", checks, failures);
+    return failures != 0;
+}
