@@ -1,0 +1,323 @@
+//! A sea-level board, drawn only by commands through the ring, and written as PPM and PNG.
+//!
+//!     board FOLDER
+//!
+//! Rectangles are unsigned, so they reach right and down. The chart is therefore drawn standing on its head, a level being a height from
+//! its row of 0 m: whatever a wave's height, it is handed to the device as it is, and the device cuts it at the screen's edge. Then the
+//! rows are swapped by copies with XOR, and the labels come on top.
+
+mod files;
+mod font;
+mod pointer;
+
+use std::path::Path;
+use std::{env, fs, process};
+use svga::{cursor_on, reg, rop, Adapter, Command, Error, Rect};
+
+const WIDTH: u32 = 640;
+const HEIGHT: u32 = 360;
+/// The chart: the columns of its 24 hours, and the rows below 0 m.
+const LEFT: u32 = 44;
+const HOUR: u32 = 24;
+const ACROSS: u32 = 24 * HOUR;
+const BASE: u32 = 36;
+const METRE: u32 = 48;
+/// The axis goes to here. The curve does not care.
+const AXIS_MAXIMUM: u32 = 5;
+/// The quay's edge: water above it is a flood.
+const QUAY: f64 = 3.5;
+
+const AXIS: u32 = 0x8FA8BF;
+const TEXT: u32 = 0xDCE6F0;
+const DIM: u32 = 0x8398AC;
+const AMBER: u32 = 0xE8B040;
+const CREST: u32 = 0xC8F0FF;
+const FLOOD_CREST: u32 = 0xFFE8C8;
+// Bits for OR that the background has not set, so that what is below shows through.
+const WATER: u32 = 0x004080;
+const SHALLOW: u32 = 0x002040;
+const ZONE: u32 = 0x200000;
+const FLOOD: u32 = 0xC00000;
+const NOT_BLUE: u32 = 0xFFFF7F;
+
+/// Pixels of a level.
+fn pixels(level: f64) -> u32 {
+    (level * f64::from(METRE)).round().max(0.0) as u32
+}
+
+/// A wave of period 1 and height 1, of parabolas.
+fn wave(t: f64) -> f64 {
+    let t = t - t.floor();
+    if t < 0.5 {
+        16.0 * t * (0.5 - t)
+    } else {
+        -16.0 * (t - 0.5) * (1.0 - t)
+    }
+}
+
+/// The sea level in metres at an hour: two tides, some swell, and a surge at a quarter past three.
+fn level(hour: f64) -> f64 {
+    let surge = (hour - 15.25) / 1.15;
+    let surge = 5.1 / (1.0 + surge * surge) / (1.0 + surge * surge);
+    1.9 + 0.95 * wave((hour - 0.6) / 12.4) + 0.07 * wave(hour / 0.83) + 0.05 * wave(hour / 0.37) + surge
+}
+
+struct Board {
+    adapter: Adapter,
+}
+
+impl Board {
+    fn fill(&mut self, colour: u32, x: u32, y: u32, w: u32, h: u32) -> Result<(), Error> {
+        self.adapter.submit(&Command::RectFill { colour, to: Rect::new(x, y, w, h) })
+    }
+
+    fn combine(&mut self, rop: u32, colour: u32, x: u32, y: u32, w: u32, h: u32) -> Result<(), Error> {
+        self.adapter.submit(&Command::RectRopFill { colour, to: Rect::new(x, y, w, h), rop })
+    }
+
+    /// Text by fills, a run of pixels each.
+    fn text(&mut self, text: &str, x: u32, y: u32, size: u32, colour: u32) -> Result<(), Error> {
+        for (column, row, length) in font::runs(text) {
+            self.fill(colour, x + column * size, y + row * size, length * size, size)?;
+        }
+        Ok(())
+    }
+
+    /// Repeats a strip of `first` columns until it is `whole` wide, doubling it by copies.
+    fn repeat(&mut self, y: u32, h: u32, first: u32, whole: u32) -> Result<(), Error> {
+        let mut done = first;
+        while done < whole {
+            let w = done.min(whole - done);
+            self.adapter.submit(&Command::RectCopy { sx: LEFT, sy: y, to: Rect::new(LEFT + done, y, w, h) })?;
+            done += w;
+        }
+        Ok(())
+    }
+
+    /// The ground and the axes, on their head: row 0 is the lowest.
+    fn axes(&mut self) -> Result<(), Error> {
+        for row in 0..HEIGHT {
+            let up = |low: u32, high: u32| (low * (HEIGHT - row) + high * row) / HEIGHT;
+            self.fill(up(14, 9) << 16 | up(30, 17) << 8 | up(56, 32), 0, row, WIDTH, 1)?;
+        }
+        let quay = BASE + pixels(QUAY);
+        self.combine(rop::OR, ZONE, LEFT, quay, ACROSS, u32::MAX)?; // the flood zone has no upper end
+        self.fill(AMBER, LEFT, quay, 7, 1)?;
+        self.repeat(quay, 1, 12, ACROSS)?;
+        for metre in 0..=AXIS_MAXIMUM {
+            let row = BASE + metre * METRE;
+            self.combine(rop::OR, 0x10_1818, LEFT, row, ACROSS, 1)?;
+            self.fill(AXIS, LEFT - 6, row, 6, 1)?;
+            if metre < AXIS_MAXIMUM {
+                self.fill(AXIS, LEFT - 3, row + METRE / 2, 3, 1)?;
+            }
+        }
+        self.fill(AXIS, LEFT - 1, BASE, 1, AXIS_MAXIMUM * METRE + 1)?;
+        for hour in (3..=24).step_by(3) {
+            self.combine(rop::OR, 0x10_1818, LEFT + hour * HOUR, BASE + 1, 1, AXIS_MAXIMUM * METRE)?;
+        }
+        self.fill(AXIS, LEFT, BASE - 6, 1, 6)?; // ticks of three hours, then copies
+        self.fill(AXIS, LEFT + HOUR, BASE - 3, 1, 3)?;
+        self.fill(AXIS, LEFT + 2 * HOUR, BASE - 3, 1, 3)?;
+        self.repeat(BASE - 6, 6, 3 * HOUR, ACROSS + 1)?;
+        self.fill(AXIS, LEFT - 1, BASE - 1, ACROSS + 2, 1)
+    }
+
+    /// The water of each column with its crest, on its head: any height will do.
+    fn tide(&mut self) -> Result<(), Error> {
+        let quay = pixels(QUAY);
+        let heights: Vec<u32> = (0..=ACROSS).map(|column| pixels(level(f64::from(column) / f64::from(HOUR)))).collect();
+        for (x, pair) in (LEFT..).zip(heights.windows(2)) {
+            let height = pair[1];
+            self.combine(rop::OR, WATER, x, BASE, 1, height)?;
+            self.combine(rop::OR, SHALLOW, x, BASE + height.saturating_sub(5), 1, height.min(5))?;
+            if height > quay {
+                self.combine(rop::AND, NOT_BLUE, x, BASE + quay, 1, height - quay)?;
+                self.combine(rop::OR, FLOOD, x, BASE + quay, 1, height - quay)?;
+            }
+        }
+        for (x, pair) in (LEFT..).zip(heights.windows(2)) {
+            let (low, high) = (pair[0].min(pair[1]), pair[0].max(pair[1]));
+            let colour = if high > quay { FLOOD_CREST } else { CREST };
+            self.combine(rop::OR, 0x30_5050, x, BASE + low - 2, 1, high - low + 5)?;
+            self.fill(colour, x, BASE + low - 1, 1, high - low + 2)?;
+        }
+        Ok(())
+    }
+
+    /// Puts the picture on its feet: row by row, each pair swapped by three copies with XOR.
+    fn turn(&mut self) -> Result<(), Error> {
+        for upper in 0..HEIGHT / 2 {
+            let lower = HEIGHT - 1 - upper;
+            for (from, to) in [(lower, upper), (upper, lower), (lower, upper)] {
+                self.adapter.submit(&Command::RectRopCopy { sx: 0, sy: from, to: Rect::new(0, to, WIDTH, 1), rop: rop::XOR })?;
+            }
+        }
+        Ok(())
+    }
+
+    fn labels(&mut self) -> Result<(), Error> {
+        let hours = (0..ACROSS).map(|column| f64::from(column) / f64::from(HOUR));
+        let (peak, hour) = hours.map(|hour| (level(hour), hour)).fold((0.0, 0.0), |a, b| if b.0 > a.0 { b } else { a });
+        let left = LEFT + (hour * f64::from(HOUR)) as u32 - 96;
+        self.text(&format!("{peak:.1} m"), left, 14, 2, FLOOD_CREST)?;
+        self.text(&format!("at {:02}:{:02}", hour as u32, (hour % 1.0 * 60.0) as u32), left, 34, 1, DIM)?;
+        for metre in 0..=AXIS_MAXIMUM {
+            self.text(&format!("{metre} m"), LEFT - 28, HEIGHT - BASE - 4 - metre * METRE, 1, TEXT)?;
+        }
+        for hour in (0..=24).step_by(3) {
+            self.text(&format!("{hour:02}:00"), LEFT + hour * HOUR - 14, HEIGHT - BASE + 11, 1, TEXT)?;
+        }
+        self.text("Sea level", LEFT + 8, 14, 2, TEXT)?;
+        self.text("Harbour gauge, metres", LEFT + 8, 34, 1, DIM)?;
+        self.text("Flood zone", LEFT + 8, HEIGHT - BASE - pixels(QUAY) - 13, 1, AMBER)
+    }
+
+    /// The legend, which the guest draws in the framebuffer and has brought to the screen.
+    fn legend(&mut self) -> Result<(), Error> {
+        let card = Rect::new(LEFT + ACROSS - 138, 12, 130, 62);
+        let plane = self.adapter.framebuffer_mut();
+        let mut paint = |x: u32, y: u32, w: u32, h: u32, colour: u32| {
+            for row in y..y + h {
+                plane[(row * WIDTH + x) as usize..][..w as usize].fill(colour);
+            }
+        };
+        paint(card.x, card.y, card.w, card.h, 0x3A5268);
+        paint(card.x + 1, card.y + 1, card.w - 2, card.h - 2, 0x101E2C);
+        let lines = [("Sea level", CREST, 3), ("Water", 0x0E5CB0, 8), ("Flood", 0xEC5A28, 8), ("Quay edge, 3.5 m", AMBER, 1)];
+        for ((text, colour, thick), y) in lines.into_iter().zip((card.y + 8..).step_by(13)) {
+            paint(card.x + 8, y + 3 - thick / 2, 14, thick, colour);
+            for (column, row, length) in font::runs(text) {
+                paint(card.x + 29 + column, y + row, length, 1, TEXT);
+            }
+        }
+        self.adapter.submit(&Command::Update(card))
+    }
+
+    /// Defines the cursor by the ring and shows it by registers.
+    fn cursor(&mut self, x: u32, y: u32) -> Result<(), Error> {
+        let (id, (hotx, hoty)) = (1, pointer::HOTSPOT);
+        let image = pointer::pixels();
+        self.adapter.submit(&Command::DefineAlphaCursor { id, hotx, hoty, w: pointer::WIDTH, h: pointer::HEIGHT, pixels: &image })?;
+        for (index, value) in [(reg::CURSOR_ID, id), (reg::CURSOR_X, x), (reg::CURSOR_Y, y), (reg::CURSOR_ON, cursor_on::SHOW)] {
+            self.adapter.write(index, value)?;
+        }
+        Ok(())
+    }
+
+    /// Appends a fence and runs until it has passed: then all before it is on the screen.
+    fn wait(&mut self, fence: u32) -> Result<(), Error> {
+        self.adapter.submit(&Command::Fence(fence))?;
+        while !self.adapter.fence_passed(fence) {
+            let run = self.adapter.run(64)?;
+            if let Some(fault) = run.fault() {
+                return Err(Error::FaultStands(fault));
+            }
+        }
+        Ok(())
+    }
+}
+
+/// The board as an adapter shows it.
+fn draw() -> Result<Adapter, Error> {
+    let mut board = Board { adapter: Adapter::new(65_536, WIDTH * HEIGHT)? };
+    board.adapter.start(WIDTH, HEIGHT)?;
+    board.axes()?;
+    board.tide()?;
+    board.turn()?;
+    board.labels()?;
+    board.legend()?;
+    board.cursor(452, 96)?;
+    board.wait(1)?;
+    Ok(board.adapter)
+}
+
+fn write(folder: &Path) -> Result<(), Box<dyn std::error::Error>> {
+    let mut adapter = draw()?;
+    let picture = adapter.picture()?;
+    fs::create_dir_all(folder)?;
+    for (name, file) in [("board.ppm", files::ppm(&picture)), ("board.png", files::png(&picture))] {
+        let path = folder.join(name);
+        fs::write(&path, &file)?;
+        println!("{}: {} by {}, {} bytes", path.display(), picture.width, picture.height, file.len());
+    }
+    Ok(())
+}
+
+fn main() {
+    let words: Vec<_> = env::args_os().skip(1).collect();
+    let [folder] = &words[..] else {
+        eprintln!("usage: board FOLDER");
+        process::exit(2);
+    };
+    if let Err(error) = write(Path::new(folder)) {
+        eprintln!("board: {error}");
+        process::exit(1);
+    }
+}
+
+#[cfg(test)]
+mod tests {
+    use super::*;
+
+    /// The screen's rows of a chart column, from the top.
+    fn column(adapter: &Adapter, column: u32) -> Vec<u32> {
+        (0..HEIGHT).map(|row| adapter.screen()[(row * WIDTH + LEFT + column) as usize]).collect()
+    }
+
+    /// The height of the water at a column's right edge, in pixels above 0 m.
+    fn height(column: u32) -> u32 {
+        pixels(level(f64::from(column + 1) / f64::from(HOUR)))
+    }
+
+    /// Whether the crest of a column, which goes from the height at its left edge to that at its right edge, is above a height.
+    fn crest_above(column: u32, limit: u32) -> bool {
+        column > 0 && height(column - 1).min(height(column)) > limit + 1
+    }
+
+    #[test]
+    fn a_wave_is_cut_at_the_screens_edge_and_nowhere_else() {
+        let adapter = draw().unwrap();
+        let (axis, screen) = (AXIS_MAXIMUM * METRE, HEIGHT - BASE);
+        let (mut above_axis, mut above_screen) = (0, 0);
+        for x in 0..ACROSS {
+            let (height, rows) = (height(x), column(&adapter, x));
+            if !crest_above(x, axis) {
+                continue;
+            }
+            above_axis += 1;
+            // flooded from the axis maximum up to the crest, or to the screen's top edge where the crest lies above it
+            for up in axis..height.min(screen) {
+                let pixel = rows[(screen - 1 - up) as usize];
+                assert!(pixel & FLOOD == FLOOD, "column {x}, {up} above 0 m: {pixel:06x} is no flood");
+            }
+            if crest_above(x, screen) {
+                above_screen += 1;
+                assert!(rows[0] != FLOOD_CREST, "column {x}: the crest is above the screen");
+            }
+        }
+        assert!(
+            above_axis > 20 && above_screen > 8,
+            "the wave is above the axis in {above_axis} columns, above the screen in {above_screen}"
+        );
+    }
+
+    #[test]
+    fn crests_stand_where_the_level_is() {
+        let adapter = draw().unwrap();
+        for x in 0..ACROSS {
+            let height = height(x);
+            if height + 2 < HEIGHT - BASE {
+                let crest = column(&adapter, x)[(HEIGHT - 1 - BASE - height) as usize];
+                assert!(crest == CREST || crest == FLOOD_CREST, "column {x}: {crest:06x}");
+            }
+        }
+    }
+
+    #[test]
+    fn nothing_is_left_in_the_ring() {
+        let mut adapter = draw().unwrap();
+        assert_eq!(adapter.fence(), 1);
+        assert_eq!(adapter.run(1).unwrap().to_string(), "drained, 0 commands consumed");
+    }
+}
