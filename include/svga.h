@@ -55,8 +55,8 @@ extern "C" {
 #define SVGA_WIDTH_MAX 2560     /* a mode's width, from 1 */
 #define SVGA_HEIGHT_MAX 1600    /* a mode's height, from 1 */
 #define SVGA_CURSOR_SIDE_MAX 64 /* a cursor's width and height, from 1 */
-#define SVGA_FIFO_BYTES_MIN 10240 /* the least MAX - MIN of a ring */
-#define SVGA_FIFO_START_MIN 16    /* the least MIN: the ring starts behind its four words */
+#define SVGA_RING_BYTES_MIN 10240 /* the least MAX - MIN of a ring */
+#define SVGA_RING_START_MIN 16    /* the least MIN: the ring starts behind its four words */
 
 /* ---- Answers */
 

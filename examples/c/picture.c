@@ -56,10 +56,10 @@ static void start(void) {
     write_register("WIDTH", SVGA_REG_WIDTH, WIDTH);
     write_register("HEIGHT", SVGA_REG_HEIGHT, HEIGHT);
     write_register("ENABLE", SVGA_REG_ENABLE, 1);
-    ring[SVGA_FIFO_MIN] = SVGA_FIFO_START_MIN;
+    ring[SVGA_FIFO_MIN] = SVGA_RING_START_MIN;
     ring[SVGA_FIFO_MAX] = RING_BYTES;
-    ring[SVGA_FIFO_NEXT_CMD] = SVGA_FIFO_START_MIN;
-    ring[SVGA_FIFO_STOP] = SVGA_FIFO_START_MIN;
+    ring[SVGA_FIFO_NEXT_CMD] = SVGA_RING_START_MIN;
+    ring[SVGA_FIFO_STOP] = SVGA_RING_START_MIN;
     write_register("CONFIG_DONE", SVGA_REG_CONFIG_DONE, 1);
 }
 

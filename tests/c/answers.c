@@ -27,7 +27,7 @@ static uint32_t picture(void) {
     return svga_picture(device, SVGA_DEVICE_WORDS, screen, PIXELS, cursor, SVGA_CURSOR_WORDS, output, PIXELS);
 }
 static void reset_ring(void) {
-    ring[SVGA_FIFO_MIN] = ring[SVGA_FIFO_NEXT_CMD] = ring[SVGA_FIFO_STOP] = SVGA_FIFO_START_MIN;
+    ring[SVGA_FIFO_MIN] = ring[SVGA_FIFO_NEXT_CMD] = ring[SVGA_FIFO_STOP] = SVGA_RING_START_MIN;
     ring[SVGA_FIFO_MAX] = MEMORY;
 }
 static void append(int line, const uint32_t *words, size_t count) {

@@ -320,11 +320,11 @@ fn flaw(min: u32, max: u32, next_cmd: u32, stop: u32, memory: u32) -> &'static s
     let inside = |place| min <= place && place < max;
     if [min, max, next_cmd, stop].iter().any(|place| place % 4 != 0) {
         "all four are multiples of 4"
-    } else if min < limit::FIFO_START_MIN {
+    } else if min < limit::RING_START_MIN {
         "MIN is at least 16"
     } else if max > memory {
         "MAX lies within the memory"
-    } else if u64::from(max) < u64::from(min) + u64::from(limit::FIFO_BYTES_MIN) {
+    } else if u64::from(max) < u64::from(min) + u64::from(limit::RING_BYTES_MIN) {
         "MAX is at least MIN + 10240"
     } else if !inside(next_cmd) {
         "NEXT_CMD lies from MIN to below MAX"

@@ -46,9 +46,9 @@ numbers! {
     /// The most of a cursor's width and height, from 1.
     CURSOR_SIDE_MAX = 64;
     /// The least MAX − MIN of a ring.
-    FIFO_BYTES_MIN = 10_240;
+    RING_BYTES_MIN = 10_240;
     /// The least MIN of a ring: it starts behind its four words.
-    FIFO_START_MIN = 16;
+    RING_START_MIN = 16;
 }
 
 numbers! {

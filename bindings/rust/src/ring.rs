@@ -7,10 +7,10 @@ use crate::{fifo, limit, sys, Error, APPEND_TAKEN};
 pub fn reset(ring: &mut [u32]) {
     let bytes = u32::try_from(ring.len().saturating_mul(4)).unwrap_or(u32::MAX);
     if let Some(words) = ring.get_mut(..4) {
-        words[fifo::MIN as usize] = limit::FIFO_START_MIN;
+        words[fifo::MIN as usize] = limit::RING_START_MIN;
         words[fifo::MAX as usize] = bytes;
-        words[fifo::NEXT_CMD as usize] = limit::FIFO_START_MIN;
-        words[fifo::STOP as usize] = limit::FIFO_START_MIN;
+        words[fifo::NEXT_CMD as usize] = limit::RING_START_MIN;
+        words[fifo::STOP as usize] = limit::RING_START_MIN;
     }
 }
 

@@ -33,8 +33,10 @@ fn a_restored_adapter_goes_on_as_the_saved_one() {
 
     assert_eq!(adapter.run(9), restored.run(9));
     assert_eq!(restored.fence(), 42);
-    assert_eq!(adapter.picture(), restored.picture());
     assert_eq!(adapter, restored);
+    let picture = adapter.picture().unwrap().pixels.to_vec();
+    assert_eq!(adapter, restored, "a picture is no part of an adapter");
+    assert_eq!(restored.picture().unwrap().pixels, picture);
 }
 
 #[test]
