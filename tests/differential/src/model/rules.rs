@@ -1,0 +1,112 @@
+//! The rules that a wrong model breaks, one each.
+
+macro_rules! rules {
+    ($($name:ident: $text:literal,)*) => {
+        #[derive(Clone, Copy, PartialEq, Eq, Debug)]
+        pub enum Rule {
+            $($name,)*
+        }
+
+        impl Rule {
+            pub const ALL: &'static [Rule] = &[$(Rule::$name,)*];
+
+            /// What the wrong model does.
+            pub fn text(self) -> &'static str {
+                match self {
+                    $(Rule::$name => $text,)*
+                }
+            }
+        }
+    };
+}
+
+rules! {
+    // Rectangles and pixels
+    EndWraps: "x + w and y + h wrap in 32 bits",
+    CopyForgetsSource: "a copy cuts its destination and forgets its source",
+    CopyTopDown: "a copy goes through rows from the top always",
+    CopyLeftToRight: "a copy goes through a row from the left always",
+    RasterBitsReversed: "a raster operation's bits count from the other end",
+    RasterOperandsSwapped: "a raster operation takes source for destination",
+    OperationModulo16: "a raster operation above 15 is taken modulo 16",
+    UpdateDropsTopByte: "UPDATE drops a pixel's top byte",
+    // Turns
+    MinAndMaxReread: "MIN and MAX are read from the ring in each run",
+    StopReread: "STOP is read from ring word 3 in each run",
+    UnusableBeforeBudget: "13 is looked at before the budget",
+    DrainedBeforeBudget: "an empty ring is looked at before the budget",
+    NextAtMaxUsable: "NEXT_CMD = MAX is usable",
+    ForeignNumberWaits: "a number not offered waits for a second word",
+    LengthBeforeCursorHead: "12 is looked at before a bad cursor head",
+    Cursor65Accepted: "a cursor of 65 is accepted",
+    HotspotAtEdgeAccepted: "a hotspot at the cursor's edge is accepted",
+    EscapeRoundedDown: "ESCAPE's size is rounded down to words",
+    EscapeInWords: "ESCAPE's size counts words",
+    RingCarriesAll: "a ring carries as many words as it holds",
+    TooLongWaits: "a command longer than the ring waits for ever",
+    FenceZeroRefused: "FENCE 0 is a fault",
+    FenceNeverGoesBack: "a smaller FENCE is not stored",
+    FenceInWord6: "FENCE also writes ring word 6",
+    CursorRestCleared: "a cursor clears the words behind its pixels",
+    StopNotWritten: "ring word 3 is not written",
+    StopWrittenUnasked: "ring word 3 is written by a run that consumed nothing",
+    FaultConsumesItsNumber: "ring word 3 passes the number of a faulting command",
+    FaultCounted: "a faulting command is counted",
+    // Refusals of a run
+    LengthsAfterConfiguration: "22 is looked at before 20",
+    DisabledBeforeUnconfigured: "21 is looked at before 22",
+    ModeBeforeDisabled: "24 is looked at before 21",
+    FaultBeforeMode: "23 is looked at before 24",
+    RunForgetsFramebufferLength: "a run does not look at the framebuffer's length",
+    // BUSY
+    DrainKeepsBusy: "a run that drains the ring keeps BUSY",
+    WaitingKeepsBusy: "a run that waits for the rest keeps BUSY",
+    BudgetClearsBusy: "a run that spends its budget clears BUSY",
+    FaultKeepsBusy: "a run that faults keeps BUSY",
+    DisablingKeepsBusy: "ENABLE 0 keeps BUSY",
+    AcceptanceClearsBusy: "CONFIG_DONE 1 clears BUSY",
+    SyncIgnoresFault: "SYNC sets BUSY while a fault stands",
+    SyncIgnoresEnable: "SYNC sets BUSY while disabled",
+    SyncZeroIgnored: "SYNC 0 does nothing",
+    // Registers
+    ReadOnlyAnsweredAbsent: "a read-only register is answered 30",
+    BitsPerPixelWritable: "BITS_PER_PIXEL takes 32",
+    RefusedWriteStored: "a refused CURSOR_ON is stored",
+    ForeignIdStored: "a foreign ID is stored",
+    ModeAbovePixelsRefused: "a mode above P is refused when it is written",
+    FaultReadsUnconfigured: "CONFIG_DONE reads 0 while a fault stands",
+    // Acceptance
+    LeastRingOneWordLarger: "a ring of 10,240 bytes is refused",
+    MinTwelveAccepted: "MIN 12 is accepted",
+    NextAtMaxAccepted: "NEXT_CMD = MAX is accepted",
+    ConfigZeroLooksAtRing: "CONFIG_DONE 0 looks at the ring's length",
+    ConfigZeroClearsFault: "CONFIG_DONE 0 clears a fault",
+    EnablingClearsFault: "ENABLE 1 clears a fault",
+    RefusedRingUnconfigures: "a refused ring leaves the device unconfigured",
+    AcceptanceKeepsFault: "CONFIG_DONE 1 leaves a fault standing",
+    AcceptanceEmptiesRing: "CONFIG_DONE 1 remembers NEXT_CMD as STOP",
+    // Append
+    AppendFillsLastWord: "an append fills the last word",
+    AppendForgetsWrap: "an append leaves NEXT_CMD at MAX",
+    // Cursor plane and pictures
+    PositionAtPicture: "the cursor's position is read when the picture is made",
+    PositionUnsigned: "X and Y are read unsigned",
+    HotspotIgnored: "the hotspot is not subtracted",
+    CursorIdNotCompared: "a cursor of another id appears",
+    CursorOnTwoHides: "CURSOR_ON 2 hides",
+    DisabledHidesCursor: "ENABLE 0 hides the cursor",
+    BlendRoundsDown: "the blend rounds down",
+    BlendPremultiplied: "the cursor's colours are taken as pre-multiplied",
+    TopByteKept: "a covered pixel keeps its top byte",
+    OutputBeyondModeCleared: "the output beyond the mode is cleared",
+    PictureForgetsCursorLength: "a picture does not look at the cursor image's length",
+    PictureModeBeforeLengths: "24 is looked at before 20 in a picture",
+    // Making, offscreen, fences
+    MemoryRoundedDown: "M is rounded down to a multiple of 4",
+    FreshMode1280By720: "a fresh device has mode 1280 by 720",
+    OffscreenRightWhole: "the offscreen rectangle has the mode's width",
+    OffscreenBottomRoundedUp: "the offscreen rectangle's bottom is rounded up",
+    OffscreenEmptyCut: "an offscreen bottom above the top is cut",
+    FenceComparedPlainly: "fences are compared without wrapping",
+    FenceHalfIncluded: "a fence 2^31 behind has passed",
+}
