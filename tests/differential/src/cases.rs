@@ -1,0 +1,187 @@
+//! Document 01's "Numbers to hold against it" and its console example, on the library and the model.
+
+use crate::counts::Counts;
+use crate::model::Model;
+use crate::pair::Pair;
+use crate::step::Step;
+
+const MEMORY: u32 = 10_256;
+const MAX: u32 = MEMORY;
+const ALL: u32 = u32::MAX;
+
+struct Bench {
+    pair: Pair,
+    counts: Counts,
+    exact: bool,
+    failed: Vec<String>,
+    held: u32,
+}
+
+impl Bench {
+    fn step(&mut self, step: Step) -> (u64, u64) {
+        match self.pair.step(&step, &mut self.counts) {
+            Ok(answered) => answered.map_or((0, 0), |answered| (answered.answer, answered.value)),
+            Err(what) => {
+                self.failed.push(format!("{step}: {what}"));
+                (u64::MAX, u64::MAX)
+            }
+        }
+    }
+
+    fn write(&mut self, index: u32, value: u32) -> u64 {
+        let lengths = self.pair.right_lengths();
+        self.step(Step::Write { lengths, index, value }).0
+    }
+
+    /// A device with the smallest ring, empty, enabled and configured, and a mode that fills the pixels; everything else zero.
+    fn fresh(&mut self, width: u32, height: u32) {
+        self.pair = Pair::new(Model::new(None), self.exact);
+        let pixels = width * height;
+        self.step(Step::Memories { ring: MEMORY as usize / 4, pixels: pixels as usize, fill: 0 });
+        let lengths = self.pair.right_lengths();
+        self.step(Step::Make { lengths, memory: MEMORY, pixels });
+        self.step(Step::Ring { place: 0, words: vec![16, MAX, 16, 16] });
+        for (index, value) in [(2, width), (3, height), (1, 1), (20, 1)] {
+            self.write(index, value);
+        }
+        self.run(&[2, 0, 0, 0, ALL, ALL], ALL);
+    }
+
+    fn append(&mut self, words: &[u32]) {
+        let lengths = self.pair.right_lengths();
+        for &word in words {
+            self.step(Step::Append { lengths, word });
+        }
+    }
+
+    fn run(&mut self, words: &[u32], budget: u32) -> (u64, u64) {
+        self.append(words);
+        let lengths = self.pair.right_lengths();
+        self.step(Step::Run { lengths, budget })
+    }
+
+    fn screen(&self, length: usize) -> &[u32] {
+        self.pair.expected.screen.first(length)
+    }
+
+    fn holds(&mut self, case: &str, held: bool) {
+        if held {
+            self.held += 1;
+        } else {
+            self.failed.push(format!("{case} does not hold"));
+        }
+    }
+
+    fn one_to_four(&mut self) {
+        self.fresh(4, 1);
+        for x in 0..4 {
+            self.run(&[2, x + 1, x, 0, 1, 1], 1);
+        }
+    }
+
+    /// STOP's way in words, from the ring word that it had.
+    fn consumed(&self, from: u32) -> u32 {
+        (self.pair.ring_words()[3] + (MAX - 16) - from) % (MAX - 16) / 4
+    }
+
+    fn cursor(&mut self, w: u32, h: u32) -> (u64, u64) {
+        self.fresh(4, 4);
+        let mut words = vec![22, 1, 0, 0, w, h];
+        words.resize(6 + (w * h) as usize, 0);
+        words.truncate(2559);
+        self.run(&words, ALL)
+    }
+
+    fn escape(&mut self, size: u32) -> ((u64, u64), u32) {
+        self.fresh(4, 4);
+        let from = self.pair.ring_words()[3];
+        let mut words = vec![33, 0, size];
+        words.resize(3 + size.div_ceil(4) as usize, 0);
+        words.truncate(2559);
+        let answered = self.run(&words, ALL);
+        (answered, self.consumed(from))
+    }
+}
+
+/// True if all hold.
+pub fn hold(exact: bool) -> bool {
+    let pair = Pair::new(Model::new(None), exact);
+    let mut b = Bench { pair, counts: Counts::new(), exact, failed: Vec::new(), held: 0 };
+
+    b.one_to_four();
+    b.run(&[3, 0, 0, 1, 0, 4, 1], ALL);
+    b.holds("case 1", b.screen(4) == [1, 1, 2, 3]);
+
+    b.one_to_four();
+    b.run(&[3, 2, 0, 0, 0, 4, 1], ALL);
+    b.holds("case 2", b.screen(4) == [3, 4, 3, 4]);
+
+    b.one_to_four();
+    let answered = b.run(&[2, 9, 0, ALL, 4, 2], ALL);
+    b.holds("case 3", answered == (0, 1) && b.screen(4) == [1, 2, 3, 4]);
+
+    for (operation, colour, below, result) in [(6, 5, 3, 6), (2, 5, 3, 4), (8, 0, 0, ALL)] {
+        b.fresh(1, 1);
+        b.run(&[2, below, 0, 0, 1, 1, 13, colour, 0, 0, 1, 1, operation], ALL);
+        b.holds("case 4", b.screen(1) == [result]);
+    }
+
+    let answers = [b.cursor(50, 51), b.cursor(51, 51)];
+    b.holds("case 5", answers == [(0, 1), (12, 0)]);
+
+    let answers = [b.cursor(64, 1), b.cursor(65, 1), b.cursor(0, 1)];
+    b.holds("case 6", answers == [(0, 1), (11, 0), (11, 0)]);
+
+    let answers = [b.escape(0), b.escape(1), b.escape(10_224), b.escape(10_225)];
+    b.holds("case 7", answers == [((0, 1), 3), ((0, 1), 4), ((0, 1), 2559), ((12, 0), 0)]);
+
+    b.fresh(2, 1);
+    b.run(&[22, 0, 0, 0, 1, 1, 0x80FF_FFFF], ALL);
+    b.write(27, 1);
+    let lengths = b.pair.right_lengths();
+    b.step(Step::Picture { lengths });
+    b.holds("case 8", b.pair.expected.output.first(2) == [0x0080_8080, 0]);
+
+    b.fresh(2, 1);
+    b.run(&[22, 0, 0, 0, 2, 1, 0xFF00_0001, 0xFF00_0002], ALL);
+    b.write(25, 4_294_967_295);
+    b.write(27, 1);
+    b.step(Step::Picture { lengths });
+    b.holds("case 9", b.pair.expected.output.first(2) == [2, 0]);
+
+    b.fresh(1, 1);
+    b.run(&[30, 1], ALL);
+    let lengths = b.pair.right_lengths();
+    let passed = [4_294_967_295, 2].map(|fence| b.step(Step::FencePassed { lengths, fence }));
+    b.holds("case 10", passed == [(0, 1), (0, 0)]);
+
+    for next in [18, MAX] {
+        b.fresh(1, 1);
+        b.step(Step::Ring { place: 2, words: vec![next] });
+        let answered = b.run(&[], ALL);
+        b.holds("case 11", answered == (13, 0));
+    }
+    b.fresh(1, 1);
+    let answered = b.run(&[20], ALL);
+    b.holds("case 11", answered == (10, 0));
+
+    b.fresh(1, 1);
+    let answers = [b.run(&[30, 7], 1), b.run(&[], 1)];
+    b.holds("case 12", answers == [(2, 1), (0, 0)]);
+
+    b.fresh(1, 1);
+    b.run(&[30, 7, 30, 0], ALL);
+    let lengths = b.pair.right_lengths();
+    let fence = b.step(Step::Fence { lengths });
+    b.holds("case 13", fence == (0, 0));
+
+    b.fresh(32, 32);
+    let answered = b.run(&[2, 255, 30, 31, 4_294_967_295, 5], 9);
+    b.holds("the console example", answered == (0, 1) && b.screen(1024)[1021..] == [0, 255, 255]);
+
+    for line in &b.failed {
+        println!("failed: document 01's numbers: {line}");
+    }
+    println!("document 01's numbers: {} hold, {} calls", b.held, b.counts.calls);
+    b.failed.is_empty()
+}

@@ -1,0 +1,461 @@
+//! What the sequences met, and how much of it is required.
+
+use crate::model::device::{Condition, Cursor, Device, CURSOR_WORDS, DEVICE_WORDS};
+use crate::model::paint::{Rect, SOURCE};
+use crate::model::run::{Command, Executed};
+use crate::pair::{Answered, Pair};
+use crate::step::Step;
+
+/// Sequences that the minima are for.
+pub const SEQUENCES: u64 = 20_000;
+
+const CALLS: [&str; 9] = [
+    "svga_make",
+    "svga_write",
+    "svga_read",
+    "svga_run",
+    "svga_picture",
+    "svga_offscreen",
+    "svga_fence",
+    "svga_fence_passed",
+    "svga_append",
+];
+
+/// The answers of each call, and how often each is required. No other answer may be seen.
+const ANSWERS: [&[(usize, u64)]; 9] = [
+    &[(0, 20_000), (20, 300), (34, 800)],
+    &[(0, 200_000), (20, 2000), (30, 1000), (31, 10_000), (32, 5000), (33, 1000)],
+    &[(0, 2000), (20, 20), (30, 1000)],
+    &[
+        (0, 50_000),
+        (1, 10_000),
+        (2, 50_000),
+        (10, 3000),
+        (11, 2000),
+        (12, 500),
+        (13, 1000),
+        (20, 5000),
+        (21, 1000),
+        (22, 3000),
+        (23, 3000),
+        (24, 2000),
+    ],
+    &[(0, 30_000), (20, 1000), (24, 2000)],
+    &[(0, 10_000), (20, 100)],
+    &[(0, 3000), (20, 20), (30, 20)],
+    &[(0, 3000), (20, 20), (30, 20)],
+    &[(0, 300_000), (1, 20_000)],
+];
+
+const COMMANDS: [&str; 9] = [
+    "UPDATE",
+    "RECT_FILL",
+    "RECT_COPY",
+    "RECT_ROP_FILL",
+    "RECT_ROP_COPY",
+    "DEFINE_ALPHA_CURSOR",
+    "UPDATE_VERBOSE",
+    "FENCE",
+    "ESCAPE",
+];
+const COMMAND_MINIMUM: u64 = 10_000;
+
+/// Painting commands: the first five and UPDATE_VERBOSE.
+const PAINTING: [usize; 6] = [0, 1, 2, 3, 4, 6];
+
+macro_rules! events {
+    ($($name:ident: $text:literal, $minimum:literal;)*) => {
+        #[derive(Clone, Copy)]
+        enum Event {
+            $($name,)*
+        }
+
+        const EVENTS: &[(&str, u64)] = &[$(($text, $minimum),)*];
+    };
+}
+
+events! {
+    RingWrap: "STOP wrapped from MAX to MIN", 10_000;
+    Straddled: "commands with words on both sides of the ring's end", 5000;
+    AppendWrap: "appends that moved NEXT_CMD to MIN", 1000;
+    AppendFull: "appends refused by a full ring", 1000;
+    AppendUnusable: "appends refused by unusable ring words", 1000;
+    FullRing: "runs on a full ring", 500;
+    Completed: "commands executed after a run had waited for their rest", 5000;
+    BudgetZero: "runs of budget 0 that were not refused", 5000;
+    BudgetOne: "runs of budget 1 that were not refused", 10_000;
+    BudgetAll: "runs of budget 4294967295 that were not refused", 10_000;
+    FaultAfterCommands: "faults after commands of the same run", 1000;
+    Changed0: "runs with ring word 0 not as remembered", 300;
+    Changed1: "runs with ring word 1 not as remembered", 300;
+    Changed3: "runs with ring word 3 not as remembered", 300;
+    BusyKept: "runs that kept BUSY", 1000;
+    BusyCleared: "runs that cleared BUSY", 1000;
+    FaultCleared: "faults cleared by CONFIG_DONE 1", 3000;
+    CopyOfCutSource: "copies cut by their source alone", 2000;
+    Largest: "commands executed in modes of a million pixels and more", 5;
+    Wide: "overlapping copies in modes at least 2,000 wide", 100;
+    CursorInside: "cursors drawn wholly inside", 1000;
+    CursorPartly: "cursors drawn partly outside", 1000;
+    CursorOutside: "cursors shown wholly outside", 500;
+    CursorHidden: "pictures without a cursor, though one is defined", 2000;
+    FencePassed: "fences passed", 500;
+    FenceNotPassed: "fences not passed", 500;
+    LengthDevice: "20 by the device's length", 1000;
+    LengthRing: "20 by the ring's length", 300;
+    LengthFramebuffer: "20 by the framebuffer's length", 300;
+    LengthScreen: "20 by the screen's length", 300;
+    LengthCursor: "20 by the cursor image's length", 300;
+    LengthOutput: "20 by the output's length", 100;
+    LengthEdges: "20 by the length for the edges", 20;
+    Replaced: "device words replaced, all 64", 5000;
+    Changed: "device words changed, one or some", 5000;
+}
+
+/// Calls that take a device and meet words that are none.
+const MALFORMED_MINIMUM: u64 = 100;
+
+#[derive(Clone)]
+pub struct Counts {
+    pub sequences: u64,
+    pub calls: u64,
+    answers: [[u64; 64]; 9],
+    commands: [u64; 9],
+    /// Painting commands that a mode's edge cut, and those that painted nothing.
+    cut: [u64; 9],
+    empty: [u64; 9],
+    /// Raster operations of fills, and of overlapping copies by direction.
+    fills: [u64; 16],
+    overlaps: [[u64; 9]; 16],
+    cursor_widths: [u64; 65],
+    cursor_heights: [u64; 65],
+    malformed: [u64; 9],
+    events: [u64; EVENTS.len()],
+    /// The last run waited for the rest of a command.
+    waiting: bool,
+}
+
+fn call_number(step: &Step) -> usize {
+    match step {
+        Step::Make { .. } => 0,
+        Step::Write { .. } => 1,
+        Step::Read { .. } => 2,
+        Step::Run { .. } => 3,
+        Step::Picture { .. } => 4,
+        Step::Offscreen { .. } => 5,
+        Step::Fence { .. } => 6,
+        Step::FencePassed { .. } => 7,
+        Step::Append { .. } => 8,
+        _ => unreachable!("no call"),
+    }
+}
+
+/// What stood before a step.
+pub struct Before {
+    pub device: Option<Device>,
+    pub ring_words: [u32; 4],
+}
+
+impl Counts {
+    pub fn new() -> Counts {
+        Counts {
+            sequences: 0,
+            calls: 0,
+            answers: [[0; 64]; 9],
+            commands: [0; 9],
+            cut: [0; 9],
+            empty: [0; 9],
+            fills: [0; 16],
+            overlaps: [[0; 9]; 16],
+            cursor_widths: [0; 65],
+            cursor_heights: [0; 65],
+            malformed: [0; 9],
+            events: [0; EVENTS.len()],
+            waiting: false,
+        }
+    }
+
+    pub fn begin_sequence(&mut self) {
+        self.sequences += 1;
+        self.waiting = false;
+    }
+
+    fn event(&mut self, event: Event, happened: bool) {
+        self.events[event as usize] += u64::from(happened);
+    }
+
+    /// What happens between calls.
+    pub fn between(&mut self, step: &Step) {
+        if let Step::Device { words, .. } = step {
+            let all = words.len() == DEVICE_WORDS;
+            self.event(Event::Replaced, all);
+            self.event(Event::Changed, !all);
+        }
+    }
+
+    pub fn call(&mut self, step: &Step, answered: Answered, before: &Before, pair: &Pair) {
+        self.calls += 1;
+        let call = call_number(step);
+        self.answers[call][answered.answer as usize] += 1;
+        let device_length = match step {
+            Step::Make { lengths, .. }
+            | Step::Write { lengths, .. }
+            | Step::Read { lengths, .. }
+            | Step::Run { lengths, .. }
+            | Step::Picture { lengths }
+            | Step::Offscreen { lengths }
+            | Step::Fence { lengths }
+            | Step::FencePassed { lengths, .. } => lengths.device,
+            _ => DEVICE_WORDS,
+        };
+        self.event(Event::LengthDevice, device_length != DEVICE_WORDS);
+        if device_length != DEVICE_WORDS {
+            return;
+        }
+        if let Step::Append { lengths, .. } = step {
+            return self.append(answered, before, pair.model.usable_ring(pair.expected.ring.first(lengths.ring)));
+        }
+        let Some(device) = &before.device else {
+            self.malformed[call] += 1;
+            return;
+        };
+        match step {
+            Step::Write { lengths, index: 20, value: 1 } => {
+                self.event(Event::LengthRing, answered.answer == 20 && lengths.ring as u64 * 4 != device.memory);
+                let faulted = matches!(device.condition, Condition::Faulted(_));
+                self.event(Event::FaultCleared, faulted && answered.answer == 0);
+            }
+            Step::Run { lengths, budget } => {
+                if answered.answer == 20 {
+                    self.event(Event::LengthRing, lengths.ring as u64 * 4 != device.memory);
+                    self.event(Event::LengthFramebuffer, lengths.framebuffer as u64 != device.pixels);
+                    self.event(Event::LengthScreen, lengths.screen as u64 != device.pixels);
+                    self.event(Event::LengthCursor, lengths.cursor != CURSOR_WORDS);
+                }
+                if answered.answer < 20 {
+                    self.run(*budget, answered, device, before.ring_words, pair);
+                }
+            }
+            Step::Picture { lengths } => {
+                if answered.answer == 20 {
+                    self.event(Event::LengthScreen, lengths.screen as u64 != device.pixels);
+                    self.event(Event::LengthCursor, lengths.cursor != CURSOR_WORDS);
+                    self.event(Event::LengthOutput, lengths.output as u64 != device.pixels);
+                }
+                if answered.answer == 0 {
+                    self.picture(device, pair);
+                }
+            }
+            Step::Offscreen { lengths } => self.event(Event::LengthEdges, lengths.edges != 4),
+            Step::FencePassed { .. } => {
+                self.event(Event::FencePassed, answered.value == 1);
+                self.event(Event::FenceNotPassed, answered.value == 0);
+            }
+            _ => {}
+        }
+    }
+
+    fn append(&mut self, answered: Answered, before: &Before, usable: bool) {
+        let [min, max, next, _] = before.ring_words;
+        if answered.answer == 0 {
+            self.event(Event::AppendWrap, u64::from(next) + 4 == u64::from(max) && min < max);
+        } else {
+            self.event(Event::AppendFull, usable);
+            self.event(Event::AppendUnusable, !usable);
+        }
+    }
+
+    fn run(&mut self, budget: u32, answered: Answered, device: &Device, ring_words: [u32; 4], pair: &Pair) {
+        self.event(Event::BudgetZero, budget == 0);
+        self.event(Event::BudgetOne, budget == 1);
+        self.event(Event::BudgetAll, budget == u32::MAX);
+        self.event(Event::FaultAfterCommands, answered.answer >= 10 && answered.value > 0);
+        let [min, max, next, stop] = ring_words.map(u64::from);
+        if let Condition::Running(ring) = device.condition {
+            self.event(Event::Changed0, min != ring.min);
+            self.event(Event::Changed1, max != ring.max);
+            self.event(Event::Changed3, stop != ring.stop);
+            let size = ring.max - ring.min;
+            let inside = ring.min <= next && next < ring.max;
+            self.event(Event::FullRing, inside && (next + 4 - ring.min) % size == ring.stop - ring.min);
+        }
+        if let Some(after) = pair.device() {
+            self.event(Event::BusyKept, device.busy && after.busy);
+            self.event(Event::BusyCleared, device.busy && !after.busy);
+        }
+        self.event(Event::Completed, self.waiting && answered.value > 0);
+        self.waiting = answered.answer == 1;
+        for executed in &pair.model.executed {
+            self.executed(executed);
+        }
+    }
+
+    fn executed(&mut self, executed: &Executed) {
+        self.event(Event::RingWrap, executed.wrapped);
+        self.event(Event::Straddled, executed.straddled);
+        let (width, height) = executed.mode;
+        self.event(Event::Largest, width * height >= 1_000_000);
+        let number = match &executed.command {
+            Command::Update(rect) => self.painted(0, rect, executed.mode),
+            Command::Fill { rect, .. } => self.painted(1, rect, executed.mode),
+            Command::Copy { source, rect } => {
+                self.moved(*source, rect, SOURCE, executed.mode);
+                self.painted(2, rect, executed.mode)
+            }
+            Command::RopFill { rect, operation, .. } => {
+                self.fills[*operation as usize] += 1;
+                self.painted(3, rect, executed.mode)
+            }
+            Command::RopCopy { source, rect, operation } => {
+                self.moved(*source, rect, *operation, executed.mode);
+                self.painted(4, rect, executed.mode)
+            }
+            Command::DefineCursor { cursor: Cursor { w, h, .. }, .. } => {
+                self.cursor_widths[*w as usize] += 1;
+                self.cursor_heights[*h as usize] += 1;
+                5
+            }
+            Command::UpdateVerbose { rect, .. } => self.painted(6, rect, executed.mode),
+            Command::Fence(_) => 7,
+            Command::Escape { .. } => 8,
+        };
+        self.commands[number] += 1;
+    }
+
+    /// Counts a rectangle that was cut in part, or to nothing. Gives the command's number back.
+    fn painted(&mut self, number: usize, rect: &Rect, (width, height): (u64, u64)) -> usize {
+        let visible = rect.x < width && rect.y < height && rect.w > 0 && rect.h > 0;
+        let beyond = rect.x + rect.w > width || rect.y + rect.h > height;
+        self.cut[number] += u64::from(visible && beyond);
+        self.empty[number] += u64::from(!visible);
+        number
+    }
+
+    fn moved(&mut self, (sx, sy): (u64, u64), rect: &Rect, operation: u64, (width, height): (u64, u64)) {
+        if sx >= width || rect.x >= width || sy >= height || rect.y >= height {
+            return;
+        }
+        let columns = rect.w.min(width - sx).min(width - rect.x);
+        let rows = rect.h.min(height - sy).min(height - rect.y);
+        let destination_cut = rect.x + rect.w > width || rect.y + rect.h > height;
+        let source_cut = sx + rect.w > width || sy + rect.h > height;
+        self.event(Event::CopyOfCutSource, columns > 0 && rows > 0 && source_cut && !destination_cut);
+        if rect.x.abs_diff(sx) < columns && rect.y.abs_diff(sy) < rows {
+            let towards = |from: u64, to: u64| match to.cmp(&from) {
+                std::cmp::Ordering::Less => 0,
+                std::cmp::Ordering::Equal => 1,
+                std::cmp::Ordering::Greater => 2,
+            };
+            self.overlaps[operation as usize][3 * towards(sy, rect.y) + towards(sx, rect.x)] += 1;
+            self.event(Event::Wide, width >= 2000);
+        }
+    }
+
+    fn picture(&mut self, device: &Device, pair: &Pair) {
+        let Some(standing) = pair.model.cursor_in_picture(device) else {
+            self.event(Event::CursorHidden, device.cursor.is_some());
+            return;
+        };
+        let (right, bottom) = (standing.left + standing.w as i64, standing.top + standing.h as i64);
+        let (width, height) = (device.width as i64, device.height as i64);
+        let outside = right <= 0 || bottom <= 0 || standing.left >= width || standing.top >= height;
+        let inside = standing.left >= 0 && standing.top >= 0 && right <= width && bottom <= height;
+        self.event(Event::CursorOutside, outside);
+        self.event(Event::CursorInside, inside);
+        self.event(Event::CursorPartly, !outside && !inside);
+    }
+
+    // ---- the report
+
+    pub fn print(&self) {
+        println!("{} sequences, {} calls", self.sequences, self.calls);
+        println!("answers:");
+        for (name, answers) in CALLS.iter().zip(&self.answers) {
+            let seen: Vec<String> = (0..answers.len())
+                .filter(|&answer| answers[answer] > 0)
+                .map(|answer| format!("{answer}: {}", answers[answer]))
+                .collect();
+            println!("  {name:<18} {}", seen.join("  "));
+        }
+        println!("commands executed (cut at a mode's edge in part; painted nothing):");
+        for (number, name) in COMMANDS.iter().enumerate() {
+            print!("  {name:<20} {:>8}", self.commands[number]);
+            if PAINTING.contains(&number) {
+                print!("  ({}; {})", self.cut[number], self.empty[number]);
+            }
+            println!();
+        }
+        println!("raster operations: fills; overlapping copies, all directions, the rarest direction:");
+        for operation in 0..16 {
+            let directions = moving(&self.overlaps[operation]);
+            println!(
+                "  {operation:>2}  {:>7}  {:>7}  {:>6}",
+                self.fills[operation],
+                directions.iter().sum::<u64>(),
+                directions.iter().min().unwrap_or(&0)
+            );
+        }
+        let rarest = |sizes: &[u64; 65]| sizes[1..].iter().copied().min().unwrap_or(0);
+        println!(
+            "cursor sizes 1 to 64: the rarest width {} times, the rarest height {} times",
+            rarest(&self.cursor_widths),
+            rarest(&self.cursor_heights)
+        );
+        let malformed: Vec<String> = (1..8).map(|call| format!("{}: {}", CALLS[call], self.malformed[call])).collect();
+        println!("calls on words that are no device: {}", malformed.join("  "));
+        for ((text, _), count) in EVENTS.iter().zip(&self.events) {
+            println!("  {count:>8}  {text}");
+        }
+    }
+
+    /// What is below its minimum, a line each.
+    pub fn shortfalls(&self) -> Vec<String> {
+        let mut short = Vec::new();
+        let mut require = |what: String, count: u64, minimum: u64| {
+            if count < minimum {
+                short.push(format!("{what}: {count}, at least {minimum} required"));
+            }
+        };
+        for ((name, answers), required) in CALLS.iter().zip(&self.answers).zip(ANSWERS) {
+            for &(answer, minimum) in required {
+                require(format!("{name} answers {answer}"), answers[answer], minimum);
+            }
+        }
+        for (number, name) in COMMANDS.iter().enumerate() {
+            require(format!("{name} executed"), self.commands[number], COMMAND_MINIMUM);
+        }
+        for number in PAINTING {
+            require(format!("{} cut in part", COMMANDS[number]), self.cut[number], 2000);
+            require(format!("{} painted nothing", COMMANDS[number]), self.empty[number], 500);
+        }
+        for operation in 0..16 {
+            require(format!("fills with operation {operation}"), self.fills[operation], 1000);
+            for (direction, count) in moving(&self.overlaps[operation]).into_iter().enumerate() {
+                require(format!("overlapping copies with operation {operation}, direction {direction}"), count, 50);
+            }
+        }
+        for size in 1..=64 {
+            require(format!("cursors {size} wide"), self.cursor_widths[size], 30);
+            require(format!("cursors {size} high"), self.cursor_heights[size], 30);
+        }
+        for call in 1..8 {
+            require(format!("{} on words that are no device", CALLS[call]), self.malformed[call], MALFORMED_MINIMUM);
+        }
+        for (&(text, minimum), &count) in EVENTS.iter().zip(&self.events) {
+            require(text.to_string(), count, minimum);
+        }
+        for ((name, answers), required) in CALLS.iter().zip(&self.answers).zip(ANSWERS) {
+            for (answer, &count) in answers.iter().enumerate() {
+                if count > 0 && !required.iter().any(|&(known, _)| known == answer) {
+                    short.push(format!("{name} answers {answer}, which is none of its answers"));
+                }
+            }
+        }
+        short
+    }
+}
+
+/// The eight directions in which a copy moves; the ninth moves nothing.
+fn moving(directions: &[u64; 9]) -> Vec<u64> {
+    directions.iter().enumerate().filter(|&(direction, _)| direction != 4).map(|(_, &count)| count).collect()
+}
