@@ -15,12 +15,25 @@ extern "C" {
     fn _exit(status: i32) -> !;
 }
 
+/// The number that stands for document 01's numbers.
+const CASES: u64 = u64::MAX;
+
 extern "C" fn ended(number: i32) {
-    let what: &[u8] = if number == SIGALRM { b"failed: no end in sequence " } else { b"failed: a crash in sequence " };
+    let what: &[u8] = if number == SIGALRM { b"failed: no end in " } else { b"failed: a crash in " };
+    let sequence = SEQUENCE.load(Ordering::Relaxed);
+    let place: &[u8] = if sequence == CASES { b"document 01's numbers\n" } else { b"sequence " };
+    // SAFETY: write and _exit may be called in a handler; the bytes outlive the calls.
+    unsafe {
+        write(1, what.as_ptr(), what.len());
+        write(1, place.as_ptr(), place.len());
+        if sequence == CASES {
+            _exit(3)
+        }
+    }
     let mut digits = [b'0'; 21];
     let mut place = digits.len() - 1;
     digits[place] = b'\n';
-    let mut rest = SEQUENCE.load(Ordering::Relaxed);
+    let mut rest = sequence;
     loop {
         place -= 1;
         digits[place] = b'0' + (rest % 10) as u8;
@@ -29,9 +42,8 @@ extern "C" fn ended(number: i32) {
             break;
         }
     }
-    // SAFETY: write and _exit may be called in a handler; the bytes outlive the calls.
+    // SAFETY: as above.
     unsafe {
-        write(1, what.as_ptr(), what.len());
         write(1, digits[place..].as_ptr(), digits.len() - place);
         _exit(3)
     }
@@ -47,6 +59,11 @@ pub fn install() {
         // SAFETY: the handler calls only what a handler may call.
         unsafe { signal(number, ended) };
     }
+}
+
+/// Document 01's numbers begin.
+pub fn set_cases() {
+    set(CASES);
 }
 
 /// A sequence begins: it has two minutes.

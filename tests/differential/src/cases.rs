@@ -1,5 +1,6 @@
 //! Document 01's "Numbers to hold against it" and its console example, on the library and the model.
 
+use crate::alarm;
 use crate::counts::Counts;
 use crate::model::Model;
 use crate::pair::Pair;
@@ -105,6 +106,7 @@ impl Bench {
 
 /// True if all hold.
 pub fn hold(exact: bool) -> bool {
+    alarm::set_cases();
     let pair = Pair::new(Model::new(None), exact);
     let mut b = Bench { pair, counts: Counts::new(), exact, failed: Vec::new(), held: 0 };
 

@@ -23,42 +23,33 @@ const CALLS: [&str; 9] = [
 
 /// The answers of each call, and how often each is required. No other answer may be seen.
 const ANSWERS: [&[(usize, u64)]; 9] = [
-    &[(0, 20_000), (20, 300), (34, 800)],
-    &[(0, 200_000), (20, 2000), (30, 1000), (31, 10_000), (32, 5000), (33, 1000)],
-    &[(0, 2000), (20, 20), (30, 1000)],
+    &[(0, 20_000), (20, 600), (34, 2000)],
+    &[(0, 500_000), (20, 3000), (30, 10_000), (31, 30_000), (32, 6000), (33, 15_000)],
+    &[(0, 3000), (20, 40), (30, 5000)],
     &[
-        (0, 50_000),
-        (1, 10_000),
-        (2, 50_000),
-        (10, 3000),
-        (11, 2000),
-        (12, 500),
-        (13, 1000),
-        (20, 5000),
-        (21, 1000),
-        (22, 3000),
-        (23, 3000),
-        (24, 2000),
+        (0, 250_000),
+        (1, 60_000),
+        (2, 150_000),
+        (10, 30_000),
+        (11, 8000),
+        (12, 2500),
+        (13, 2000),
+        (20, 20_000),
+        (21, 8000),
+        (22, 20_000),
+        (23, 50_000),
+        (24, 10_000),
     ],
-    &[(0, 30_000), (20, 1000), (24, 2000)],
-    &[(0, 10_000), (20, 100)],
-    &[(0, 3000), (20, 20), (30, 20)],
-    &[(0, 3000), (20, 20), (30, 20)],
-    &[(0, 300_000), (1, 20_000)],
+    &[(0, 70_000), (20, 2000), (24, 15_000)],
+    &[(0, 25_000), (20, 80)],
+    &[(0, 8000), (20, 40), (30, 700)],
+    &[(0, 8000), (20, 40), (30, 700)],
+    &[(0, 800_000), (1, 35_000)],
 ];
 
-const COMMANDS: [&str; 9] = [
-    "UPDATE",
-    "RECT_FILL",
-    "RECT_COPY",
-    "RECT_ROP_FILL",
-    "RECT_ROP_COPY",
-    "DEFINE_ALPHA_CURSOR",
-    "UPDATE_VERBOSE",
-    "FENCE",
-    "ESCAPE",
-];
-const COMMAND_MINIMUM: u64 = 10_000;
+const COMMANDS: [&str; 9] =
+    ["UPDATE", "RECT_FILL", "RECT_COPY", "RECT_ROP_FILL", "RECT_ROP_COPY", "DEFINE_ALPHA_CURSOR", "UPDATE_VERBOSE", "FENCE", "ESCAPE"];
+const COMMAND_MINIMUM: u64 = 25_000;
 
 /// Painting commands: the first five and UPDATE_VERBOSE.
 const PAINTING: [usize; 6] = [0, 1, 2, 3, 4, 6];
@@ -75,45 +66,45 @@ macro_rules! events {
 }
 
 events! {
-    RingWrap: "STOP wrapped from MAX to MIN", 10_000;
-    Straddled: "commands with words on both sides of the ring's end", 5000;
-    AppendWrap: "appends that moved NEXT_CMD to MIN", 1000;
-    AppendFull: "appends refused by a full ring", 1000;
-    AppendUnusable: "appends refused by unusable ring words", 1000;
-    FullRing: "runs on a full ring", 500;
-    Completed: "commands executed after a run had waited for their rest", 5000;
-    BudgetZero: "runs of budget 0 that were not refused", 5000;
-    BudgetOne: "runs of budget 1 that were not refused", 10_000;
-    BudgetAll: "runs of budget 4294967295 that were not refused", 10_000;
-    FaultAfterCommands: "faults after commands of the same run", 1000;
-    Changed0: "runs with ring word 0 not as remembered", 300;
-    Changed1: "runs with ring word 1 not as remembered", 300;
-    Changed3: "runs with ring word 3 not as remembered", 300;
-    BusyKept: "runs that kept BUSY", 1000;
-    BusyCleared: "runs that cleared BUSY", 1000;
-    FaultCleared: "faults cleared by CONFIG_DONE 1", 3000;
-    CopyOfCutSource: "copies cut by their source alone", 2000;
-    Largest: "commands executed in modes of a million pixels and more", 5;
-    Wide: "overlapping copies in modes at least 2,000 wide", 100;
+    RingWrap: "STOP wrapped from MAX to MIN", 25_000;
+    Straddled: "commands with words on both sides of the ring's end", 25_000;
+    AppendWrap: "appends that moved NEXT_CMD to MIN", 4000;
+    AppendFull: "appends refused by a full ring", 30_000;
+    AppendUnusable: "appends refused by unusable ring words", 8000;
+    FullRing: "runs on a full ring", 10_000;
+    Completed: "commands executed after a run had waited for their rest", 50_000;
+    BudgetZero: "runs of budget 0 that were not refused", 50_000;
+    BudgetOne: "runs of budget 1 that were not refused", 100_000;
+    BudgetAll: "runs of budget 4294967295 that were not refused", 150_000;
+    FaultAfterCommands: "faults after commands of the same run", 20_000;
+    Changed0: "runs with ring word 0 not as remembered", 10_000;
+    Changed1: "runs with ring word 1 not as remembered", 10_000;
+    Changed3: "runs with ring word 3 not as remembered", 25_000;
+    BusyKept: "runs that kept BUSY", 50_000;
+    BusyCleared: "runs that cleared BUSY", 100_000;
+    FaultCleared: "faults cleared by CONFIG_DONE 1", 40_000;
+    CopyOfCutSource: "copies cut by their source alone", 15_000;
+    Largest: "commands executed in modes of a million pixels and more", 10;
+    Wide: "overlapping copies in modes at least 2,000 wide", 500;
     CursorInside: "cursors drawn wholly inside", 1000;
-    CursorPartly: "cursors drawn partly outside", 1000;
-    CursorOutside: "cursors shown wholly outside", 500;
-    CursorHidden: "pictures without a cursor, though one is defined", 2000;
-    FencePassed: "fences passed", 500;
-    FenceNotPassed: "fences not passed", 500;
-    LengthDevice: "20 by the device's length", 1000;
-    LengthRing: "20 by the ring's length", 300;
-    LengthFramebuffer: "20 by the framebuffer's length", 300;
-    LengthScreen: "20 by the screen's length", 300;
-    LengthCursor: "20 by the cursor image's length", 300;
-    LengthOutput: "20 by the output's length", 100;
-    LengthEdges: "20 by the length for the edges", 20;
-    Replaced: "device words replaced, all 64", 5000;
-    Changed: "device words changed, one or some", 5000;
+    CursorPartly: "cursors drawn partly outside", 9000;
+    CursorOutside: "cursors shown wholly outside", 10_000;
+    CursorHidden: "pictures without a cursor, though one is defined", 20_000;
+    FencePassed: "fences passed", 4000;
+    FenceNotPassed: "fences not passed", 4000;
+    LengthDevice: "20 by the device's length", 8000;
+    LengthRing: "20 by the ring's length", 5000;
+    LengthFramebuffer: "20 by the framebuffer's length", 4000;
+    LengthScreen: "20 by the screen's length", 5000;
+    LengthCursor: "20 by the cursor image's length", 4000;
+    LengthOutput: "20 by the output's length", 500;
+    LengthEdges: "20 by the length for the edges", 30;
+    Replaced: "device words replaced, all 64", 9000;
+    Changed: "device words changed, one or some", 12_000;
 }
 
 /// Calls that take a device and meet words that are none.
-const MALFORMED_MINIMUM: u64 = 100;
+const MALFORMED_MINIMUM: u64 = 700;
 
 #[derive(Clone)]
 pub struct Counts {
@@ -198,15 +189,8 @@ impl Counts {
         let call = call_number(step);
         self.answers[call][answered.answer as usize] += 1;
         let device_length = match step {
-            Step::Make { lengths, .. }
-            | Step::Write { lengths, .. }
-            | Step::Read { lengths, .. }
-            | Step::Run { lengths, .. }
-            | Step::Picture { lengths }
-            | Step::Offscreen { lengths }
-            | Step::Fence { lengths }
-            | Step::FencePassed { lengths, .. } => lengths.device,
-            _ => DEVICE_WORDS,
+            Step::Append { .. } => DEVICE_WORDS,
+            _ => step.lengths().map_or(DEVICE_WORDS, |lengths| lengths.device),
         };
         self.event(Event::LengthDevice, device_length != DEVICE_WORDS);
         if device_length != DEVICE_WORDS {
@@ -371,10 +355,8 @@ impl Counts {
         println!("{} sequences, {} calls", self.sequences, self.calls);
         println!("answers:");
         for (name, answers) in CALLS.iter().zip(&self.answers) {
-            let seen: Vec<String> = (0..answers.len())
-                .filter(|&answer| answers[answer] > 0)
-                .map(|answer| format!("{answer}: {}", answers[answer]))
-                .collect();
+            let seen: Vec<String> =
+                (0..answers.len()).filter(|&answer| answers[answer] > 0).map(|answer| format!("{answer}: {}", answers[answer])).collect();
             println!("  {name:<18} {}", seen.join("  "));
         }
         println!("commands executed (cut at a mode's edge in part; painted nothing):");
@@ -401,11 +383,16 @@ impl Counts {
             rarest(&self.cursor_widths),
             rarest(&self.cursor_heights)
         );
-        let malformed: Vec<String> = (1..8).map(|call| format!("{}: {}", CALLS[call], self.malformed[call])).collect();
+        let malformed: Vec<String> = self.malformed_calls().map(|(name, count)| format!("{name}: {count}")).collect();
         println!("calls on words that are no device: {}", malformed.join("  "));
         for ((text, _), count) in EVENTS.iter().zip(&self.events) {
             println!("  {count:>8}  {text}");
         }
+    }
+
+    /// The calls that take a made device, and how often they met words that are none.
+    fn malformed_calls(&self) -> impl Iterator<Item = (&'static str, u64)> + '_ {
+        CALLS.into_iter().zip(self.malformed).skip(1).take(7)
     }
 
     /// What is below its minimum, a line each.
@@ -425,21 +412,21 @@ impl Counts {
             require(format!("{name} executed"), self.commands[number], COMMAND_MINIMUM);
         }
         for number in PAINTING {
-            require(format!("{} cut in part", COMMANDS[number]), self.cut[number], 2000);
-            require(format!("{} painted nothing", COMMANDS[number]), self.empty[number], 500);
+            require(format!("{} cut in part", COMMANDS[number]), self.cut[number], 7000);
+            require(format!("{} painted nothing", COMMANDS[number]), self.empty[number], 7000);
         }
         for operation in 0..16 {
-            require(format!("fills with operation {operation}"), self.fills[operation], 1000);
+            require(format!("fills with operation {operation}"), self.fills[operation], 5000);
             for (direction, count) in moving(&self.overlaps[operation]).into_iter().enumerate() {
-                require(format!("overlapping copies with operation {operation}, direction {direction}"), count, 50);
+                require(format!("overlapping copies with operation {operation}, direction {direction}"), count, 80);
             }
         }
         for size in 1..=64 {
-            require(format!("cursors {size} wide"), self.cursor_widths[size], 30);
-            require(format!("cursors {size} high"), self.cursor_heights[size], 30);
+            require(format!("cursors {size} wide"), self.cursor_widths[size], 150);
+            require(format!("cursors {size} high"), self.cursor_heights[size], 150);
         }
-        for call in 1..8 {
-            require(format!("{} on words that are no device", CALLS[call]), self.malformed[call], MALFORMED_MINIMUM);
+        for (name, count) in self.malformed_calls() {
+            require(format!("{name} on words that are no device"), count, MALFORMED_MINIMUM);
         }
         for (&(text, minimum), &count) in EVENTS.iter().zip(&self.events) {
             require(text.to_string(), count, minimum);

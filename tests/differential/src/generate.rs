@@ -11,8 +11,34 @@ const HALF: u32 = 1 << 31;
 
 /// Numbers that are on some edge or other.
 const EDGES: [u32; 28] = [
-    0, 1, 2, 3, 4, 5, 8, 10, 13, 15, 16, 17, 28, 63, 64, 65, 1600, 1601, 2560, 2561, 10_239, 10_240, 10_256, HALF - 1, HALF, HALF + 1,
-    TOP - 3, TOP,
+    0,
+    1,
+    2,
+    3,
+    4,
+    5,
+    8,
+    10,
+    13,
+    15,
+    16,
+    17,
+    28,
+    63,
+    64,
+    65,
+    1600,
+    1601,
+    2560,
+    2561,
+    10_239,
+    10_240,
+    10_256,
+    HALF - 1,
+    HALF,
+    HALF + 1,
+    TOP - 3,
+    TOP,
 ];
 
 pub struct Generator {
@@ -47,8 +73,7 @@ impl Seen {
 
 impl Generator {
     pub fn new(seed: u64) -> Generator {
-        let mut generator =
-            Generator { random: Random::new(seed), queue: VecDeque::new(), left: 0, saved: Vec::new(), large: false };
+        let mut generator = Generator { random: Random::new(seed), queue: VecDeque::new(), left: 0, saved: Vec::new(), large: false };
         generator.begin();
         generator
     }
@@ -165,6 +190,13 @@ impl Generator {
         self.push(Step::Write { lengths, index, value });
     }
 
+    /// A write with a ring of the wrong length, at which only CONFIG_DONE 1 looks.
+    fn write_with_wrong_ring(&mut self, pair: &Pair, index: u32, value: u32) {
+        let mut lengths = pair.right_lengths();
+        lengths.ring -= self.random.of(&[1, 4, lengths.ring]).min(lengths.ring);
+        self.push(Step::Write { lengths, index, value });
+    }
+
     /// A write with the right lengths.
     fn write_rightly(&mut self, pair: &Pair, index: u32, value: u32) {
         self.push(Step::Write { lengths: pair.right_lengths(), index, value });
@@ -247,6 +279,9 @@ impl Generator {
     fn plan(&mut self, pair: &Pair, device: &Device) {
         let running = matches!(device.condition, Condition::Running(_));
         let ready = running && device.enable && mode_fits(device);
+        if matches!(device.condition, Condition::Faulted(_)) && self.random.chance(1, 12) {
+            return self.refusals(pair);
+        }
         if !ready && (self.large || self.random.chance(13, 20)) {
             return self.repair(pair, device);
         }
@@ -275,11 +310,7 @@ impl Generator {
             }
             97 => self.configure(pair, device),
             98 => match self.random.below(3) {
-                0 => self.push(Step::Make {
-                    lengths: pair.right_lengths(),
-                    memory: device.memory as u32,
-                    pixels: device.pixels as u32,
-                }),
+                0 => self.push(Step::Make { lengths: pair.right_lengths(), memory: device.memory as u32, pixels: device.pixels as u32 }),
                 1 => self.make_again(pair),
                 _ => self.bad_make(pair.right_lengths(), device.memory as u32, device.pixels as u32),
             },
@@ -446,10 +477,14 @@ impl Generator {
             self.write_rightly(pair, 21, 0);
         }
         for _ in 0..self.random.between(1, 3) {
-            match self.random.below(4) {
+            match self.random.below(5) {
                 0 => self.write_rightly(pair, 1, 0),
                 1 => self.write_rightly(pair, 20, 0),
                 2 => self.write_rightly(pair, 2, 2560),
+                3 => {
+                    let index = self.random.of(&[1, 3, 20, 20, 21, 27]);
+                    self.write_with_wrong_ring(pair, index, 0);
+                }
                 _ => self.write_rightly(pair, 3, 1600),
             }
         }

@@ -179,14 +179,7 @@ struct Options {
 }
 
 fn options() -> Option<Options> {
-    let mut options = Options {
-        seed: None,
-        sequences: counts::SEQUENCES,
-        exact: false,
-        sequence: None,
-        wrong_models: false,
-        soak: None,
-    };
+    let mut options = Options { seed: None, sequences: counts::SEQUENCES, exact: false, sequence: None, wrong_models: false, soak: None };
     let mut arguments = std::env::args().skip(1).peekable();
     while let Some(argument) = arguments.next() {
         match argument.as_str() {

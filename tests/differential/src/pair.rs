@@ -112,7 +112,8 @@ impl Pair {
         }
         for ((name, library), (_, model)) in self.library.named().into_iter().zip(self.expected.named()) {
             if let Some((place, theirs, ours)) = library.difference(model) {
-                let beyond = if place < 0 || place >= library.room() as i64 { ", beyond what was lent" } else { "" };
+                let lent = step.lengths().map_or(0, |lengths| lengths.of(name));
+                let beyond = if place < 0 || place >= lent as i64 { ", not among those lent" } else { "" };
                 return Err(format!("{name} word {place}{beyond}: the library's is {theirs:#x}, the model's {ours:#x}"));
             }
         }
@@ -130,10 +131,7 @@ impl Pair {
             let (answer, value) = halves(sys::read(words, index));
             let ours = self.model.read(words, index);
             if (answer, value) != ours {
-                return Err(format!(
-                    "register {index} reads {value:#x} with answer {answer}, the model's {:#x} with {}",
-                    ours.1, ours.0
-                ));
+                return Err(format!("register {index} reads {value:#x} with answer {answer}, the model's {:#x} with {}", ours.1, ours.0));
             }
         }
         Ok(())
@@ -144,9 +142,7 @@ impl Pair {
         let alone = |answer| Some(Answered { answer, value: 0 });
         let with = |(answer, value)| Some(Answered { answer, value });
         match step {
-            Step::Make { lengths: l, memory, pixels } => {
-                alone(model.make(m.device.first_mut(l.device), *memory, *pixels))
-            }
+            Step::Make { lengths: l, memory, pixels } => alone(model.make(m.device.first_mut(l.device), *memory, *pixels)),
             Step::Write { lengths: l, index, value } => {
                 alone(model.write(m.device.first_mut(l.device), m.ring.first(l.ring), *index, *value))
             }
@@ -165,9 +161,7 @@ impl Pair {
                 m.cursor.first(l.cursor),
                 m.output.first_mut(l.output),
             )),
-            Step::Offscreen { lengths: l } => {
-                alone(model.offscreen(m.device.first(l.device), m.edges.first_mut(l.edges)))
-            }
+            Step::Offscreen { lengths: l } => alone(model.offscreen(m.device.first(l.device), m.edges.first_mut(l.edges))),
             Step::Fence { lengths: l } => with(model.fence(m.device.first(l.device))),
             Step::FencePassed { lengths: l, fence } => with(model.fence_passed(m.device.first(l.device), *fence)),
             Step::Append { lengths: l, word } => alone(model.append(m.ring.first_mut(l.ring), *word)),
@@ -186,15 +180,10 @@ impl Pair {
             Some(Answered { answer, value })
         };
         match step {
-            Step::Make { lengths: l, memory, pixels } => {
-                alone(sys::make(&mut m.device.lend(l.device, exact), *memory, *pixels))
+            Step::Make { lengths: l, memory, pixels } => alone(sys::make(&mut m.device.lend(l.device, exact), *memory, *pixels)),
+            Step::Write { lengths: l, index, value } => {
+                alone(sys::write(&mut m.device.lend(l.device, exact), &m.ring.lend(l.ring, exact), *index, *value))
             }
-            Step::Write { lengths: l, index, value } => alone(sys::write(
-                &mut m.device.lend(l.device, exact),
-                &m.ring.lend(l.ring, exact),
-                *index,
-                *value,
-            )),
             Step::Read { lengths: l, index } => with(sys::read(&m.device.lend(l.device, exact), *index)),
             Step::Run { lengths: l, budget } => with(sys::run(
                 &mut m.device.lend(l.device, exact),
@@ -210,13 +199,9 @@ impl Pair {
                 &m.cursor.lend(l.cursor, exact),
                 &mut m.output.lend(l.output, exact),
             )),
-            Step::Offscreen { lengths: l } => {
-                alone(sys::offscreen(&m.device.lend(l.device, exact), &mut m.edges.lend(l.edges, exact)))
-            }
+            Step::Offscreen { lengths: l } => alone(sys::offscreen(&m.device.lend(l.device, exact), &mut m.edges.lend(l.edges, exact))),
             Step::Fence { lengths: l } => with(sys::fence(&m.device.lend(l.device, exact))),
-            Step::FencePassed { lengths: l, fence } => {
-                with(sys::fence_passed(&m.device.lend(l.device, exact), *fence))
-            }
+            Step::FencePassed { lengths: l, fence } => with(sys::fence_passed(&m.device.lend(l.device, exact), *fence)),
             Step::Append { lengths: l, word } => alone(sys::append(&mut m.ring.lend(l.ring, exact), *word)),
             _ => {
                 between_calls(m, step);
@@ -231,15 +216,7 @@ impl Pair {
         let words = room.device.first(2);
         let ring = (words[0] as usize / 4).min(room.ring.room());
         let pixels = (words[1] as usize).min(room.screen.room());
-        Lengths {
-            device: DEVICE_WORDS,
-            ring,
-            framebuffer: pixels,
-            screen: pixels,
-            cursor: CURSOR_WORDS,
-            output: pixels,
-            edges: 4,
-        }
+        Lengths { device: DEVICE_WORDS, ring, framebuffer: pixels, screen: pixels, cursor: CURSOR_WORDS, output: pixels, edges: 4 }
     }
 }
 

@@ -25,7 +25,7 @@ impl Random {
     /// From 0 to below `end`.
     pub fn below(&mut self, end: u64) -> u64 {
         debug_assert!(end > 0);
-        (self.next() >> 32) * end >> 32
+        ((self.next() >> 32) * end) >> 32
     }
 
     /// From `first` to `last`, both included.

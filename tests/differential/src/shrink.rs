@@ -27,6 +27,7 @@ pub fn shortened(steps: &[Step]) -> (Vec<Step>, String) {
         return (steps.to_vec(), "none when repeated: the library answered otherwise this time".to_string());
     };
     let mut kept = steps[..length].to_vec();
+    // Halves, then lengths about those of a command that was appended word by word.
     let mut chunk = kept.len() / 2;
     while chunk > 0 && began.elapsed() < MOST_TIME {
         let mut start = 1;
@@ -44,7 +45,7 @@ pub fn shortened(steps: &[Step]) -> (Vec<Step>, String) {
             }
         }
         if chunk > 1 || kept.len() == before {
-            chunk /= 2;
+            chunk = if chunk > 16 { (chunk / 2).max(16) } else { chunk - 1 };
         }
     }
     (kept, what)

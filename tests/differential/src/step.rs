@@ -15,27 +15,99 @@ pub struct Lengths {
     pub edges: usize,
 }
 
+impl Lengths {
+    pub fn of(&self, memory: &str) -> usize {
+        match memory {
+            "device" => self.device,
+            "ring" => self.ring,
+            "framebuffer" => self.framebuffer,
+            "screen" => self.screen,
+            "cursor" => self.cursor,
+            "output" => self.output,
+            _ => self.edges,
+        }
+    }
+}
+
 #[derive(Clone, PartialEq, Eq, Debug)]
 pub enum Step {
     /// New memories with room for so many words, filled from a seed; the device's words are zero.
-    Memories { ring: usize, pixels: usize, fill: u64 },
-    Make { lengths: Lengths, memory: u32, pixels: u32 },
-    Write { lengths: Lengths, index: u32, value: u32 },
-    Read { lengths: Lengths, index: u32 },
-    Run { lengths: Lengths, budget: u32 },
-    Picture { lengths: Lengths },
-    Offscreen { lengths: Lengths },
-    Fence { lengths: Lengths },
-    FencePassed { lengths: Lengths, fence: u32 },
-    Append { lengths: Lengths, word: u32 },
+    Memories {
+        ring: usize,
+        pixels: usize,
+        fill: u64,
+    },
+    Make {
+        lengths: Lengths,
+        memory: u32,
+        pixels: u32,
+    },
+    Write {
+        lengths: Lengths,
+        index: u32,
+        value: u32,
+    },
+    Read {
+        lengths: Lengths,
+        index: u32,
+    },
+    Run {
+        lengths: Lengths,
+        budget: u32,
+    },
+    Picture {
+        lengths: Lengths,
+    },
+    Offscreen {
+        lengths: Lengths,
+    },
+    Fence {
+        lengths: Lengths,
+    },
+    FencePassed {
+        lengths: Lengths,
+        fence: u32,
+    },
+    Append {
+        lengths: Lengths,
+        word: u32,
+    },
     /// The guest writes words at NEXT_CMD and moves it on, without looking whether the ring is full.
-    Put { words: Vec<u32> },
+    Put {
+        words: Vec<u32>,
+    },
     /// The guest writes ring memory.
-    Ring { place: usize, words: Vec<u32> },
+    Ring {
+        place: usize,
+        words: Vec<u32>,
+    },
     /// The host writes the device's words.
-    Device { place: usize, words: Vec<u32> },
+    Device {
+        place: usize,
+        words: Vec<u32>,
+    },
     /// The guest draws: the framebuffer is filled from a seed.
-    Framebuffer { fill: u64 },
+    Framebuffer {
+        fill: u64,
+    },
+}
+
+impl Step {
+    /// The lent lengths, where it is a call.
+    pub fn lengths(&self) -> Option<&Lengths> {
+        match self {
+            Step::Make { lengths, .. }
+            | Step::Write { lengths, .. }
+            | Step::Read { lengths, .. }
+            | Step::Run { lengths, .. }
+            | Step::Picture { lengths }
+            | Step::Offscreen { lengths }
+            | Step::Fence { lengths }
+            | Step::FencePassed { lengths, .. }
+            | Step::Append { lengths, .. } => Some(lengths),
+            _ => None,
+        }
+    }
 }
 
 /// Words of a list, cut short where it is long.
@@ -77,11 +149,9 @@ impl fmt::Display for Step {
                 "svga_run(device[{}], ring[{}], framebuffer[{}], screen[{}], cursor[{}], budget {budget})",
                 l.device, l.ring, l.framebuffer, l.screen, l.cursor
             ),
-            Step::Picture { lengths: l } => write!(
-                out,
-                "svga_picture(device[{}], screen[{}], cursor[{}], output[{}])",
-                l.device, l.screen, l.cursor, l.output
-            ),
+            Step::Picture { lengths: l } => {
+                write!(out, "svga_picture(device[{}], screen[{}], cursor[{}], output[{}])", l.device, l.screen, l.cursor, l.output)
+            }
             Step::Offscreen { lengths: l } => write!(out, "svga_offscreen(device[{}], edges[{}])", l.device, l.edges),
             Step::Fence { lengths: l } => write!(out, "svga_fence(device[{}])", l.device),
             Step::FencePassed { lengths: l, fence } => {

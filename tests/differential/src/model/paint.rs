@@ -82,7 +82,10 @@ impl Model {
                 if !self.inside(rect, x, y) {
                     continue;
                 }
-                let (from_x, from_y) = (sx + (x - rect.x), sy + (y - rect.y));
+                let (mut from_x, mut from_y) = (sx + (x - rect.x), sy + (y - rect.y));
+                if self.breaks(Rule::SourceWraps) {
+                    (from_x, from_y) = (from_x % WORD, from_y % WORD);
+                }
                 let source_inside = from_x < width && from_y < height;
                 let source = if source_inside {
                     let from = place(width, from_x, from_y);
@@ -108,8 +111,7 @@ impl Model {
             for x in 0..width {
                 if self.inside(rect, x, y) {
                     let pixel = framebuffer[place(width, x, y)];
-                    screen[place(width, x, y)] =
-                        if self.breaks(Rule::UpdateDropsTopByte) { pixel & 0xFF_FFFF } else { pixel };
+                    screen[place(width, x, y)] = if self.breaks(Rule::UpdateDropsTopByte) { pixel & 0xFF_FFFF } else { pixel };
                 }
             }
         }

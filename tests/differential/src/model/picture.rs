@@ -30,21 +30,17 @@ impl Model {
         if !device.plane.shown {
             return None;
         }
-        if device.plane.id != cursor.id && !self.breaks(Rule::CursorIdNotCompared) {
+        let id = if self.breaks(Rule::IdAtPicture) { device.cursor_id } else { device.plane.id };
+        if id != cursor.id && !self.breaks(Rule::CursorIdNotCompared) {
             return None;
         }
         if self.breaks(Rule::DisabledHidesCursor) && !device.enable {
             return None;
         }
-        let (x, y) = if self.breaks(Rule::PositionAtPicture) {
-            (device.cursor_x, device.cursor_y)
-        } else {
-            (device.plane.x, device.plane.y)
-        };
         let (x, y) =
-            if self.breaks(Rule::PositionUnsigned) { (x as i64, y as i64) } else { (signed(x), signed(y)) };
-        let (hotx, hoty) =
-            if self.breaks(Rule::HotspotIgnored) { (0, 0) } else { (cursor.hotx as i64, cursor.hoty as i64) };
+            if self.breaks(Rule::PositionAtPicture) { (device.cursor_x, device.cursor_y) } else { (device.plane.x, device.plane.y) };
+        let (x, y) = if self.breaks(Rule::PositionUnsigned) { (x as i64, y as i64) } else { (signed(x), signed(y)) };
+        let (hotx, hoty) = if self.breaks(Rule::HotspotIgnored) { (0, 0) } else { (cursor.hotx as i64, cursor.hoty as i64) };
         Some(Standing { left: x - hotx, top: y - hoty, w: cursor.w, h: cursor.h })
     }
 
@@ -83,7 +79,7 @@ impl Model {
             for x in 0..device.width {
                 let below = screen[place(device.width, x, y)];
                 output[place(device.width, x, y)] = match &standing {
-                    Some(standing) => match covered(standing, x as i64, y as i64) {
+                    Some(standing) => match self.covered(standing, x as i64, y as i64) {
                         Some(pixel) => self.blend(cursor[pixel], below),
                         None => below,
                     },
@@ -96,13 +92,14 @@ impl Model {
         }
         0
     }
-}
 
-/// The cursor word that covers pixel (x, y), if one does: "Its pixels fill the first w·h cursor words, row by row".
-fn covered(standing: &Standing, x: i64, y: i64) -> Option<usize> {
-    let (i, j) = (x - standing.left, y - standing.top);
-    if i < 0 || i >= standing.w as i64 || j < 0 || j >= standing.h as i64 {
-        return None;
+    /// The cursor word that covers pixel (x, y), if one does: "Its pixels fill the first w·h cursor words, row by row".
+    fn covered(&self, standing: &Standing, x: i64, y: i64) -> Option<usize> {
+        let (i, j) = (x - standing.left, y - standing.top);
+        if i < 0 || i >= standing.w as i64 || j < 0 || j >= standing.h as i64 {
+            return None;
+        }
+        let row = if self.breaks(Rule::CursorStride64) { 64 } else { standing.w as i64 };
+        Some((j * row + i) as usize)
     }
-    Some((j * standing.w as i64 + i) as usize)
 }

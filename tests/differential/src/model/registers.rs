@@ -52,7 +52,8 @@ impl Model {
             }
             return if self.breaks(Rule::ReadOnlyAnsweredAbsent) { 30 } else { 31 };
         }
-        if !in_range(index, value) {
+        let wrongly_taken = self.breaks(Rule::Width2561Taken) && index == 2 && value == 2561;
+        if !in_range(index, value) && !wrongly_taken {
             // "Answers 20 to 34 change nothing"
             if self.breaks(Rule::RefusedWriteStored) && index == 27 {
                 device.cursor_on = value;
@@ -72,6 +73,10 @@ impl Model {
                 if value == 0 && !self.breaks(Rule::DisablingKeepsBusy) {
                     device.busy = false;
                 }
+                if self.breaks(Rule::DisablingUnconfigures) && value == 0 {
+                    device.condition = Condition::Idle;
+                    device.config_done = false;
+                }
                 if self.breaks(Rule::EnablingClearsFault) && value == 1 && matches!(device.condition, Condition::Faulted(_)) {
                     device.condition = Condition::Idle;
                     device.config_done = false;
@@ -89,7 +94,8 @@ impl Model {
             21 => {
                 let fault = matches!(device.condition, Condition::Faulted(_)) && !self.breaks(Rule::SyncIgnoresFault);
                 let enabled = device.enable || self.breaks(Rule::SyncIgnoresEnable);
-                if device.config_done && enabled && !fault && !(self.breaks(Rule::SyncZeroIgnored) && value == 0) {
+                let configured = device.config_done || self.breaks(Rule::SyncIgnoresConfiguration);
+                if configured && enabled && !fault && !(self.breaks(Rule::SyncZeroIgnored) && value == 0) {
                     device.busy = true;
                 }
             }
@@ -111,7 +117,9 @@ impl Model {
                 return 20;
             }
             device.config_done = false;
-            device.busy = false;
+            if !self.breaks(Rule::ConfigZeroKeepsBusy) {
+                device.busy = false;
+            }
             // "A fault .. stands until CONFIG_DONE 1 is accepted"
             let fault = matches!(device.condition, Condition::Faulted(_)) && !self.breaks(Rule::ConfigZeroClearsFault);
             if !fault {
@@ -121,6 +129,9 @@ impl Model {
         }
         if !length_right {
             return 20;
+        }
+        if self.breaks(Rule::RingNeedsId2) && device.id != 0x9000_0002 {
+            return 33;
         }
         if !self.usable(ring, device.memory) {
             if self.breaks(Rule::RefusedRingUnconfigures) {
@@ -135,8 +146,7 @@ impl Model {
             return 0;
         }
         let stop = if self.breaks(Rule::AcceptanceEmptiesRing) { ring[2] } else { ring[3] };
-        device.condition =
-            Condition::Running(Ring { min: u64::from(ring[0]), max: u64::from(ring[1]), stop: u64::from(stop) });
+        device.condition = Condition::Running(Ring { min: u64::from(ring[0]), max: u64::from(ring[1]), stop: u64::from(stop) });
         if self.breaks(Rule::AcceptanceClearsBusy) {
             device.busy = false;
         }
@@ -151,6 +161,9 @@ impl Model {
             device.plane.id = device.cursor_id;
             device.plane.x = device.cursor_x;
             device.plane.y = device.cursor_y;
+        }
+        if value == 3 && self.breaks(Rule::CursorOnThreeShows) {
+            device.plane.shown = true;
         }
         if value == 0 || value == 2 && self.breaks(Rule::CursorOnTwoHides) {
             device.plane.shown = false;
@@ -177,6 +190,7 @@ impl Model {
             12 => bytes_per_line(device),
             // "13, 14 and 18 zero"
             13 | 14 | 18 => 0,
+            15 if self.breaks(Rule::VramSizeOfMode) => fb_size(device),
             15 => vram_size(device),
             16 => fb_size(device),
             17 => CAPABILITIES,
@@ -190,6 +204,7 @@ impl Model {
             25 => device.cursor_x,
             26 => device.cursor_y,
             27 => device.cursor_on,
+            _ if self.breaks(Rule::AbsentReadsTaken) => 0,
             _ => return (30, 0),
         };
         (0, value)
@@ -215,6 +230,9 @@ impl Model {
     pub fn passed(&self, device: &Device, fence: u64) -> bool {
         if self.breaks(Rule::FenceComparedPlainly) {
             return device.fence >= fence;
+        }
+        if self.breaks(Rule::LastFenceNotPassed) && device.fence == fence {
+            return false;
         }
         let below = if self.breaks(Rule::FenceHalfIncluded) { (1 << 31) + 1 } else { 1 << 31 };
         (device.fence + (1 << 32) - fence) % (1 << 32) < below

@@ -37,15 +37,20 @@ enum Turn {
     Executes(Command, u64),
 }
 
-/// "Words wrap from MAX to MIN." Words from STOP to below NEXT_CMD wait.
+/// Words from STOP to below NEXT_CMD wait.
 struct Waiting<'a> {
+    model: &'a Model,
     memory: &'a [u32],
     ring: Ring,
     words: u64,
 }
 
 impl Waiting<'_> {
+    /// "Words wrap from MAX to MIN."
     fn word(&self, offset: u64) -> u64 {
+        if self.model.breaks(Rule::WordsReadBeyondMax) {
+            return u64::from(*self.memory.get((self.ring.stop / 4 + offset) as usize).unwrap_or(&0));
+        }
         u64::from(self.memory[(moved_on(&self.ring, offset) / 4) as usize])
     }
 }
@@ -107,6 +112,7 @@ impl Model {
             }
             // "head 3, then ceil(size/4)"
             33 if self.breaks(Rule::EscapeRoundedDown) => 3 + word(2) / 4,
+            33 if self.breaks(Rule::EscapeWraps) => 3 + (word(2) + 3) % (1 << 32) / 4,
             33 if self.breaks(Rule::EscapeInWords) => 3 + word(2),
             33 => 3 + word(2).div_ceil(4),
             _ => head,
@@ -164,6 +170,7 @@ impl Model {
         match command {
             Command::Update(rect) => self.update(mode, framebuffer, screen, rect),
             // "as 1, reason (no effect)"
+            Command::UpdateVerbose { .. } if self.breaks(Rule::VerbosePaintsNothing) => {}
             Command::UpdateVerbose { rect, .. } => self.update(mode, framebuffer, screen, rect),
             Command::Fill { colour, rect } => self.fill(mode, screen, *colour, rect, SOURCE),
             Command::RopFill { colour, rect, operation } => self.fill(mode, screen, *colour, rect, *operation),
@@ -172,6 +179,9 @@ impl Model {
             // "Its pixels fill the first w·h cursor words, row by row; the rest stay."
             Command::DefineCursor { cursor, pixels } => {
                 device.cursor = Some(*cursor);
+                if self.breaks(Rule::DefiningHides) {
+                    device.plane.shown = false;
+                }
                 let room = image.len();
                 image[..pixels.len().min(room)].copy_from_slice(&pixels[..pixels.len().min(room)]);
                 if self.breaks(Rule::CursorRestCleared) {
@@ -194,7 +204,7 @@ impl Model {
     fn refusal(&self, device: &Device, ring: &[u32], framebuffer: &[u32], screen: &[u32], image: &[u32]) -> Option<u64> {
         let length_wrong = ring.len() as u64 * 4 != device.memory
             || framebuffer.len() as u64 != device.pixels && !self.breaks(Rule::RunForgetsFramebufferLength)
-            || screen.len() as u64 != device.pixels
+            || screen.len() as u64 != device.pixels && !(self.breaks(Rule::LongerScreenTaken) && screen.len() as u64 > device.pixels)
             || image.len() != CURSOR_WORDS;
         let refusals = [
             (length_wrong, 20),
@@ -217,6 +227,17 @@ impl Model {
             order.swap(3, 4);
         }
         order.into_iter().find(|&place| refusals[place].0).map(|place| refusals[place].1)
+    }
+
+    /// "The run stops after a number of commands never above its budget"
+    fn budget(&self, given: u64) -> u64 {
+        if self.breaks(Rule::BudgetOneTooMany) {
+            return given + 1;
+        }
+        if self.breaks(Rule::BudgetZeroRunsOne) {
+            return given.max(1);
+        }
+        given
     }
 
     /// The answer and "the number of commands consumed in this run".
@@ -248,6 +269,7 @@ impl Model {
                 remembered.stop = stop;
             }
         }
+        let budget = self.budget(budget);
         let mut count = 0;
         let answer = loop {
             let next = u64::from(ring[2]);
@@ -273,7 +295,7 @@ impl Model {
             }
             let size = remembered.max - remembered.min;
             let words = (next + size - remembered.stop) % size / 4;
-            let (command, length) = match self.turn(&Waiting { memory: ring, ring: remembered, words }) {
+            let (command, length) = match self.turn(&Waiting { model: self, memory: ring, ring: remembered, words }) {
                 Turn::Ends(answer) => break answer,
                 Turn::Executes(command, length) => (command, length),
             };
@@ -281,6 +303,9 @@ impl Model {
             self.execute(device, &command, framebuffer, screen, image);
             let words_to_end = (remembered.max - remembered.stop) / 4;
             remembered.stop = moved_on(&remembered, length);
+            if self.breaks(Rule::StopLeftAtMax) && length == words_to_end {
+                remembered.stop = remembered.max;
+            }
             if !self.breaks(Rule::StopNotWritten) {
                 ring[3] = remembered.stop as u32;
             }
@@ -289,14 +314,13 @@ impl Model {
                     ring[6] = number as u32;
                 }
             }
+            // "an empty one is consumed"
+            let empty = matches!(&command, Command::Fill { rect, .. } if rect.w == 0 || rect.h == 0);
+            if !(self.breaks(Rule::EmptyRectangleNotCounted) && empty) {
+                count += 1;
+            }
             let mode = (device.width, device.height);
-            self.executed.push(Executed {
-                command,
-                mode,
-                wrapped: length >= words_to_end,
-                straddled: length > words_to_end,
-            });
-            count += 1;
+            self.executed.push(Executed { command, mode, wrapped: length >= words_to_end, straddled: length > words_to_end });
         };
         // "The run changes no other ring word, and none if it consumed nothing."
         if self.breaks(Rule::StopWrittenUnasked) {
@@ -305,7 +329,9 @@ impl Model {
         device.condition = Condition::Running(remembered);
         if (10..=13).contains(&answer) {
             // "A fault consumes nothing of its command and stands until CONFIG_DONE 1 is accepted"
-            device.condition = Condition::Faulted(answer);
+            if !(self.breaks(Rule::UnusableDoesNotStand) && answer == 13) {
+                device.condition = Condition::Faulted(answer);
+            }
             if self.breaks(Rule::FaultConsumesItsNumber) {
                 ring[3] = moved_on(&remembered, 1) as u32;
             }
