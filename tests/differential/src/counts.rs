@@ -50,6 +50,12 @@ const ANSWERS: [&[(usize, u64)]; 9] = [
 const COMMANDS: [&str; 9] =
     ["UPDATE", "RECT_FILL", "RECT_COPY", "RECT_ROP_FILL", "RECT_ROP_COPY", "DEFINE_ALPHA_CURSOR", "UPDATE_VERBOSE", "FENCE", "ESCAPE"];
 const COMMAND_MINIMUM: u64 = 25_000;
+const CUT_MINIMUM: u64 = 7000;
+const EMPTY_MINIMUM: u64 = 7000;
+/// For each raster operation; for each one in each direction; for each width and each height.
+const FILL_MINIMUM: u64 = 5000;
+const OVERLAP_MINIMUM: u64 = 80;
+const CURSOR_MINIMUM: u64 = 150;
 
 /// Painting commands: the first five and UPDATE_VERBOSE.
 const PAINTING: [usize; 6] = [0, 1, 2, 3, 4, 6];
@@ -351,42 +357,37 @@ impl Counts {
 
     // ---- the report
 
+    /// Counts, each with the least that `SEQUENCES` have to meet in brackets.
     pub fn print(&self) {
         println!("{} sequences, {} calls", self.sequences, self.calls);
-        println!("answers:");
-        for (name, answers) in CALLS.iter().zip(&self.answers) {
+        println!("counts, in brackets the least that {SEQUENCES} sequences have to meet:");
+        for ((name, answers), required) in CALLS.iter().zip(&self.answers).zip(ANSWERS) {
             let seen: Vec<String> =
-                (0..answers.len()).filter(|&answer| answers[answer] > 0).map(|answer| format!("{answer}: {}", answers[answer])).collect();
-            println!("  {name:<18} {}", seen.join("  "));
+                required.iter().map(|&(answer, minimum)| format!("{answer}: {} ({minimum})", answers[answer])).collect();
+            println!("  {name} answered  {}", seen.join("  "));
         }
-        println!("commands executed (cut at a mode's edge in part; painted nothing):");
         for (number, name) in COMMANDS.iter().enumerate() {
-            print!("  {name:<20} {:>8}", self.commands[number]);
+            print!("  {name} executed {} ({COMMAND_MINIMUM})", self.commands[number]);
             if PAINTING.contains(&number) {
-                print!("  ({}; {})", self.cut[number], self.empty[number]);
+                let (cut, empty) = (self.cut[number], self.empty[number]);
+                print!(", cut at a mode's edge in part {cut} ({CUT_MINIMUM}), painted nothing {empty} ({EMPTY_MINIMUM})");
             }
             println!();
         }
-        println!("raster operations: fills; overlapping copies, all directions, the rarest direction:");
-        for operation in 0..16 {
-            let directions = moving(&self.overlaps[operation]);
-            println!(
-                "  {operation:>2}  {:>7}  {:>7}  {:>6}",
-                self.fills[operation],
-                directions.iter().sum::<u64>(),
-                directions.iter().min().unwrap_or(&0)
-            );
-        }
+        println!("  raster operations 0 to 15 in fills ({FILL_MINIMUM}):  {}", numbers(&self.fills));
+        println!("  raster operations 0 to 15 in overlapping copies:  {}", numbers(&self.overlaps.map(|by| moving(&by).iter().sum())));
+        let rarest = self.overlaps.map(|by| moving(&by).into_iter().min().unwrap_or(0));
+        println!("    .. in the rarest of eight directions ({OVERLAP_MINIMUM}):  {}", numbers(&rarest));
         let rarest = |sizes: &[u64; 65]| sizes[1..].iter().copied().min().unwrap_or(0);
         println!(
-            "cursor sizes 1 to 64: the rarest width {} times, the rarest height {} times",
+            "  cursors of each size 1 to 64 ({CURSOR_MINIMUM}): the rarest width {}, the rarest height {}",
             rarest(&self.cursor_widths),
             rarest(&self.cursor_heights)
         );
-        let malformed: Vec<String> = self.malformed_calls().map(|(name, count)| format!("{name}: {count}")).collect();
-        println!("calls on words that are no device: {}", malformed.join("  "));
-        for ((text, _), count) in EVENTS.iter().zip(&self.events) {
-            println!("  {count:>8}  {text}");
+        let malformed: Vec<String> = self.malformed_calls().map(|(name, count)| format!("{name} {count}")).collect();
+        println!("  calls on words that are no device ({MALFORMED_MINIMUM}):  {}", malformed.join("  "));
+        for ((text, minimum), count) in EVENTS.iter().zip(&self.events) {
+            println!("  {text}: {count} ({minimum})");
         }
     }
 
@@ -412,18 +413,18 @@ impl Counts {
             require(format!("{name} executed"), self.commands[number], COMMAND_MINIMUM);
         }
         for number in PAINTING {
-            require(format!("{} cut in part", COMMANDS[number]), self.cut[number], 7000);
-            require(format!("{} painted nothing", COMMANDS[number]), self.empty[number], 7000);
+            require(format!("{} cut in part", COMMANDS[number]), self.cut[number], CUT_MINIMUM);
+            require(format!("{} painted nothing", COMMANDS[number]), self.empty[number], EMPTY_MINIMUM);
         }
         for operation in 0..16 {
-            require(format!("fills with operation {operation}"), self.fills[operation], 5000);
+            require(format!("fills with operation {operation}"), self.fills[operation], FILL_MINIMUM);
             for (direction, count) in moving(&self.overlaps[operation]).into_iter().enumerate() {
-                require(format!("overlapping copies with operation {operation}, direction {direction}"), count, 80);
+                require(format!("overlapping copies with operation {operation}, direction {direction}"), count, OVERLAP_MINIMUM);
             }
         }
         for size in 1..=64 {
-            require(format!("cursors {size} wide"), self.cursor_widths[size], 150);
-            require(format!("cursors {size} high"), self.cursor_heights[size], 150);
+            require(format!("cursors {size} wide"), self.cursor_widths[size], CURSOR_MINIMUM);
+            require(format!("cursors {size} high"), self.cursor_heights[size], CURSOR_MINIMUM);
         }
         for (name, count) in self.malformed_calls() {
             require(format!("{name} on words that are no device"), count, MALFORMED_MINIMUM);
@@ -445,4 +446,8 @@ impl Counts {
 /// The eight directions in which a copy moves; the ninth moves nothing.
 fn moving(directions: &[u64; 9]) -> Vec<u64> {
     directions.iter().enumerate().filter(|&(direction, _)| direction != 4).map(|(_, &count)| count).collect()
+}
+
+fn numbers(list: &[u64]) -> String {
+    list.iter().map(u64::to_string).collect::<Vec<_>>().join(" ")
 }

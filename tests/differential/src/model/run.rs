@@ -97,10 +97,11 @@ impl Model {
         }
         let word = |place| waiting.word(place);
         let rect = |first: u64| Rect { x: word(first), y: word(first + 1), w: word(first + 2), h: word(first + 3) };
-        let cursor = Cursor { id: word(1), hotx: word(2), hoty: word(3), w: word(4), h: word(5) };
+        let cursor = || Cursor { id: word(1), hotx: word(2), hoty: word(3), w: word(4), h: word(5) };
         let length = match number {
             // "head 6, then w·h"
             22 => {
+                let cursor = cursor();
                 let too_long = cursor.w < 1 << 31 && cursor.h < 1 << 31 && 6 + cursor.w * cursor.h >= holds(&waiting.ring);
                 if self.breaks(Rule::LengthBeforeCursorHead) && too_long {
                     return Turn::Ends(12);
@@ -138,7 +139,7 @@ impl Model {
             3 => Command::Copy { source: (word(1), word(2)), rect: rect(3) },
             13 => Command::RopFill { colour: word(1), rect: rect(2), operation: operation(6) },
             14 => Command::RopCopy { source: (word(1), word(2)), rect: rect(3), operation: operation(7) },
-            22 => Command::DefineCursor { cursor, pixels: (6..length).map(|place| word(place) as u32).collect() },
+            22 => Command::DefineCursor { cursor: cursor(), pixels: (6..length).map(|place| word(place) as u32).collect() },
             25 => Command::UpdateVerbose { rect: rect(1), reason: word(5) },
             30 => Command::Fence(word(1)),
             _ => Command::Escape { namespace: word(1), size: word(2) },
@@ -182,8 +183,9 @@ impl Model {
                 if self.breaks(Rule::DefiningHides) {
                     device.plane.shown = false;
                 }
-                let room = image.len();
-                image[..pixels.len().min(room)].copy_from_slice(&pixels[..pixels.len().min(room)]);
+                for (word, pixel) in image.iter_mut().zip(pixels) {
+                    *word = *pixel;
+                }
                 if self.breaks(Rule::CursorRestCleared) {
                     image[pixels.len()..].fill(0);
                 }
@@ -364,7 +366,7 @@ impl Model {
             return 1;
         }
         let [min, max, next, stop] = [0, 1, 2, 3].map(|place| ring[place]);
-        if next >= max {
+        if self.breaks(Rule::NextAtMaxAccepted) && next == max {
             return 1;
         }
         let moved = if next + 4 == max && !self.breaks(Rule::AppendForgetsWrap) { min } else { next + 4 };
