@@ -41,6 +41,9 @@ const EDGES: [u32; 28] = [
     TOP,
 ];
 
+/// Words of a ring that a cursor 64 wide and 1 high fits.
+const LEAST_SEEN: u32 = 100;
+
 pub struct Generator {
     random: Random,
     queue: VecDeque<Step>,
@@ -615,12 +618,12 @@ impl Generator {
 
     // ---- commands
 
-    /// What the guest sees in ring words 0 to 3; none where it is no ring in the memory.
+    /// What the guest sees in ring words 0 to 3; none where it is no ring in the memory, or too small for any cursor.
     fn seen(&self, pair: &Pair) -> Option<Seen> {
         let [min, max, next, stop] = pair.ring_words();
         let inside = |word: u32| word % 4 == 0 && min <= word && word < max;
         let sane = min % 4 == 0 && max % 4 == 0 && min >= 16 && max as usize <= 4 * pair.expected.ring.room();
-        (sane && max / 4 > min / 4 + 8 && inside(next) && inside(stop)).then_some(Seen { min, max, next, stop })
+        (sane && max / 4 > min / 4 + LEAST_SEEN && inside(next) && inside(stop)).then_some(Seen { min, max, next, stop })
     }
 
     /// Some commands, by one way or another, and runs between them.
