@@ -184,6 +184,6 @@ pub fn hold(exact: bool) -> bool {
     for line in &b.failed {
         println!("failed: document 01's numbers: {line}");
     }
-    println!("document 01's numbers: {} hold, {} calls", b.held, b.counts.calls);
+    println!("passed: {} of document 01's numbers, {} calls", b.held, b.counts.calls);
     b.failed.is_empty()
 }

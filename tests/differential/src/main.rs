@@ -2,6 +2,7 @@
 
 mod alarm;
 mod cases;
+mod console;
 mod counts;
 mod generate;
 mod memory;
@@ -15,6 +16,7 @@ use counts::Counts;
 use generate::Generator;
 use model::{Model, Rule};
 use pair::Pair;
+use std::path::PathBuf;
 use std::process::ExitCode;
 use std::time::{Duration, Instant};
 use step::Step;
@@ -22,6 +24,7 @@ use step::Step;
 const USAGE: &str = "usage: differential [--sequences N] [--seed N] [--exact]
        differential --sequence SEED     repeat one sequence and show its steps
        differential --wrong-models      the driver has to find every wrong model
+       differential --console PROGRAM CRATE   the console program, and its crate's stdin and stdout, against the model
        differential --soak [HOURS]      run for hours (8), from a seed of the clock unless --seed is given
 --exact lends blocks of exactly the lent lengths, for valgrind.";
 
@@ -107,8 +110,11 @@ fn gate(seed: u64, sequences: u64, exact: bool) -> bool {
     }
     counts.print();
     let seconds = began.elapsed().as_secs_f64();
-    println!("no difference, seeds {seed} to {}, {seconds:.1} s", seed + sequences.max(1) - 1);
-    sequences < counts::SEQUENCES || required(&counts)
+    let good = sequences < counts::SEQUENCES || required(&counts);
+    if good {
+        println!("passed: 1 run of {sequences} sequences: no difference, seeds {seed} to {}, {seconds:.1} s", seed + sequences.max(1) - 1);
+    }
+    good
 }
 
 fn required(counts: &Counts) -> bool {
@@ -136,7 +142,7 @@ fn wrong_models(seed: u64, sequences: u64) -> bool {
         }
     }
     let seconds = began.elapsed().as_secs_f64();
-    println!("{} of {} wrong models found, {seconds:.1} s", Rule::ALL.len() - missed, Rule::ALL.len());
+    println!("passed: {} wrong models of {} found, {seconds:.1} s", Rule::ALL.len() - missed, Rule::ALL.len());
     missed == 0
 }
 
@@ -175,11 +181,13 @@ struct Options {
     exact: bool,
     sequence: Option<u64>,
     wrong_models: bool,
+    console: Option<(PathBuf, PathBuf)>,
     soak: Option<f64>,
 }
 
 fn options() -> Option<Options> {
-    let mut options = Options { seed: None, sequences: counts::SEQUENCES, exact: false, sequence: None, wrong_models: false, soak: None };
+    let mut options =
+        Options { seed: None, sequences: counts::SEQUENCES, exact: false, sequence: None, wrong_models: false, console: None, soak: None };
     let mut arguments = std::env::args().skip(1).peekable();
     while let Some(argument) = arguments.next() {
         match argument.as_str() {
@@ -188,6 +196,7 @@ fn options() -> Option<Options> {
             "--sequence" => options.sequence = Some(arguments.next()?.parse().ok()?),
             "--exact" => options.exact = true,
             "--wrong-models" => options.wrong_models = true,
+            "--console" => options.console = Some((arguments.next()?.into(), arguments.next()?.into())),
             "--soak" => {
                 let hours = arguments.next_if(|next| !next.starts_with("--"));
                 options.soak = Some(hours.map_or(Some(8.0), |hours| hours.parse().ok())?);
@@ -216,6 +225,11 @@ fn main() -> ExitCode {
                 false
             }
         }
+    } else if let Some((program, folder)) = options.console {
+        console::hold(&program, &folder, seed).unwrap_or_else(|error| {
+            println!("failed: the console: {error}");
+            false
+        })
     } else if options.wrong_models {
         wrong_models(seed, options.sequences)
     } else if let Some(hours) = options.soak {
