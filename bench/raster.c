@@ -4,14 +4,10 @@
 // Both buffers are written before anything is timed. All contenders of a row run in turn, and the least time of all rounds counts.
 //
 //   raster [ROUNDS]        (default 100)
-#define _GNU_SOURCE
+#include "common.h"
 #include <pixman.h>
 #include <stdbool.h>
-#include <stdint.h>
-#include <stdio.h>
-#include <stdlib.h>
 #include <string.h>
-#include <time.h>
 
 // ---- the library under test: total functions, lengths in words
 
@@ -128,12 +124,6 @@ struct comparison {
     struct contender reference[2]; // an empty name: there is no second
 };
 
-static double now_ns(void) {
-    struct timespec t;
-    clock_gettime(CLOCK_THREAD_CPUTIME_ID, &t);
-    return (double)t.tv_sec * 1e9 + (double)t.tv_nsec;
-}
-
 // The time of one job, in the mean of all.
 static double time_jobs(const struct contender *c, const struct job *jobs, size_t count) {
     double start = now_ns();
@@ -141,21 +131,14 @@ static double time_jobs(const struct contender *c, const struct job *jobs, size_
     return (now_ns() - start) / (double)count;
 }
 
-static void least(double *best, double t) {
-    if (t < *best) *best = t;
-}
-
 static void print_row(const char *size, const struct comparison *c, int reference, const double *best) {
-    double ratio = best[0] / best[1 + reference];
-    printf("| %s %s | %.0f | %s | %.0f | %.2f |", size, c->title, best[0], c->reference[reference].name,
-           best[1 + reference], ratio);
-    double target = c->reference[reference].target;
-    if (target > 0) printf(" %.2f%s |\n", target, ratio <= target + 0.005 ? "" : " **missed**");
-    else printf(" |\n");
+    printf("| %s %s | %.0f | %s | %.0f |", size, c->title, best[0], c->reference[reference].name, best[1 + reference]);
+    print_ratio(best[0] / best[1 + reference], c->reference[reference].target);
+    printf("\n");
 }
 
 static void compare(const char *size, const struct comparison *c, const struct job *jobs, size_t count, int rounds) {
-    double best[3] = {1e18, 1e18, 1e18};
+    double best[3] = {NEVER, NEVER, NEVER};
     int references = c->reference[1].name ? 2 : 1;
     for (int round = 0; round < rounds; round++) {
         least(&best[0], time_jobs(&c->ours, jobs, count));
@@ -182,7 +165,6 @@ static const struct comparison small[] = {
     {"copy", {"ours", our_copy, 0}, {{"pixman_blt", pixman_copies, 1.00}, {"memmove per row", memmove_copies, 0}}},
     {"XOR copy", {"ours", our_xor_copy, 0}, {{"C XOR loop", loop_xor_copies, 0}}},
 };
-#define COUNT(a) (sizeof(a) / sizeof *(a))
 
 enum direction { UP, DOWN, LEFT, RIGHT };
 static const char *const direction_name[] = {"up 1 row,", "down 1 row,", "left 1 pixel,", "right 1 pixel,"};
@@ -254,13 +236,6 @@ static uint32_t expected_pixel(enum painter p, const struct job *j, uint32_t rop
     return raster_rule(rop, old[sy * j->width + sx], old[at]);
 }
 
-// Most often a number up to a little above the limit, now and then one near a power of two or near 2^32.
-static uint32_t random_number(uint32_t limit) {
-    static const uint32_t hostile[] = {0, 0x7FFFFFFF, 0x80000000, 0xFFFFFFFE, 0xFFFFFFFF};
-    if (rand() % 12 == 0) return hostile[rand() % 5] - (uint32_t)(rand() % 3);
-    return (uint32_t)rand() % (limit + 4);
-}
-
 static bool check_one(enum painter p, uint32_t width, uint32_t rows) {
     enum { MOST = 300 * 40 };
     static uint32_t now[MOST], old[MOST], fb[MOST];
@@ -298,15 +273,14 @@ static bool check_all(int count) {
 }
 
 int main(int argc, char **argv) {
-    int rounds = argc > 1 ? atoi(argv[1]) : 100;
+    int rounds = rounds_from(argc, argv, 100);
     srand(7);
+    printf("## Painters\n\n");
     if (!check_all(9000)) return 1;
 
     size_t n = (size_t)MAX_WIDTH * MAX_ROWS;
-    screen = aligned_alloc(4096, n * sizeof *screen);
-    framebuffer = aligned_alloc(4096, n * sizeof *framebuffer);
-    if (!screen || !framebuffer) return 1;
-    for (size_t i = 0; i < n; i++) screen[i] = (uint32_t)i * 2654435761u, framebuffer[i] = (uint32_t)i * 40503u;
+    screen = new_words(n), framebuffer = new_words(n);
+    for (size_t i = 0; i < n; i++) framebuffer[i] ^= 0x5A5A5A;
 
     printf("| Case | ours, ns | Reference | ns | Ratio | Target |\n|---|---|---|---|---|---|\n");
     measure_screen(1280, 720, rounds);
