@@ -1,9 +1,9 @@
 // Cost of single calls: a Markdown table of the time for one, ours and of the device in plain C, whose registers are a struct and a switch.
 // First both devices get the same random calls, bad ones too, and have to answer alike. The calls of a row are made some hundred times
-// for one reading of the clock, by ours and by the C device in turn, and the least time of all rounds counts.
+// for one reading of the clock, by ours and by the C device in turn, and the median of all rounds counts.
 // The exit status is 1 if an answer differs, and 0 otherwise.
 //
-//   calls [ROUNDS]        (default 200)
+//   calls [ROUNDS]        (default 1000)
 #include "both.h"
 #include "common.h"
 
@@ -135,29 +135,32 @@ static double time_calls(uint64_t (*calls)(void), uint64_t *sum) {
     return (now_ns() - start) / CALLS;
 }
 
-static bool measure(size_t row, int rounds) {
-    double best[2] = {NEVER, NEVER};
+// All rows in each round, so that a slow spell of the machine falls on all.
+static bool measure(int rounds, struct times (*times)[2]) {
     uint64_t sum[2];
-    set_up_both();
     for (int round = 0; round < rounds; round++) {
-        least(&best[0], time_calls(rows[row].ours, &sum[0]));
-        least(&best[1], time_calls(rows[row].theirs, &sum[1]));
-        if (sum[0] != sum[1]) {
+        for (size_t row = 0; row < COUNT(rows); row++) {
+            set_up_both();
+            add_time(&times[row][0], time_calls(rows[row].ours, &sum[0]));
+            add_time(&times[row][1], time_calls(rows[row].theirs, &sum[1]));
+            if (sum[0] == sum[1]) continue;
             printf("MISMATCH: %s\n", rows[row].name);
             return false;
         }
     }
-    printf("| %s | %.1f | %.1f | %.1f |\n", rows[row].name, best[0], best[1], best[0] / best[1]);
     return true;
 }
 
 int main(int argc, char **argv) {
-    int rounds = rounds_from(argc, argv, 200);
+    int rounds = rounds_from(argc, argv, 1000);
+    static struct times times[COUNT(rows)][2];
     srand(7);
     printf("## Single calls\n\n");
-    if (!check_all(1000000)) return 1;
+    if (!check_all(1000000) || !measure(rounds, times)) return 1;
     printf("| Call | ours, ns | C device, ns | Ratio |\n|---|---|---|---|\n");
-    for (size_t row = 0; row < COUNT(rows); row++)
-        if (!measure(row, rounds)) return 1;
+    for (size_t row = 0; row < COUNT(rows); row++) {
+        double our = median(&times[row][0]), their = median(&times[row][1]);
+        printf("| %s | %.1f | %.1f | %.1f |\n", rows[row].name, our, their, our / their);
+    }
     return 0;
 }

@@ -32,18 +32,38 @@ static inline uint32_t random_number(uint32_t limit) {
     return (uint32_t)rand() % (limit + 4);
 }
 
-// ---- time: of this thread, so that others at work disturb less
+// ---- time
 
-static const double NEVER = 1e18;
-
+// Of this thread, so that a run of others in between does not count.
 static inline double now_ns(void) {
     struct timespec t;
     clock_gettime(CLOCK_THREAD_CPUTIME_ID, &t);
     return (double)t.tv_sec * 1e9 + (double)t.tv_nsec;
 }
 
-static inline void least(double *best, double t) {
-    if (t < *best) *best = t;
+// The times of one contender. Their median counts, not the least: now and then this clock reads far too short, and the least is then that.
+struct times {
+    double *t;
+    size_t count, room;
+};
+
+static inline void add_time(struct times *s, double t) {
+    if (s->count == s->room) {
+        s->room = s->room ? 2 * s->room : 64;
+        s->t = realloc(s->t, s->room * sizeof *s->t);
+        if (!s->t) exit(1);
+    }
+    s->t[s->count++] = t;
+}
+
+static inline int compare_times(const void *a, const void *b) {
+    double x = *(const double *)a, y = *(const double *)b;
+    return (x > y) - (x < y);
+}
+
+static inline double median(struct times *s) {
+    qsort(s->t, s->count, sizeof *s->t, compare_times);
+    return s->t[s->count / 2];
 }
 
 // ---- cells

@@ -1,10 +1,10 @@
 // How time grows with pixels, commands and the size of the ring: Markdown tables of our time and of the device in plain C, whose rows are
 // pixman_fill, memcpy and memmove. "slope" is what each unit more has cost since the row above: a straight line has one slope, however
 // large its first row. The C device beside it tells what is the machine's: caches end for both.
-// Before a row is timed, both devices run it and have to answer alike.
+// Before a row is timed, both devices run it and have to answer alike. The median of all rounds counts.
 // The exit status is 1 if they do not, and 0 otherwise.
 //
-//   growth [ROUNDS]        (default 50)
+//   growth [ROUNDS]        (default 10, in each of eight passes)
 #include "both.h"
 #include "common.h"
 
@@ -60,13 +60,12 @@ static double time_runs(run_function *run, uint32_t stop, uint32_t budget, int t
     return (now_ns() - start) / times;
 }
 
-// The time of a run from FIRST on, by both.
-static bool runs_timed(uint32_t budget, int times, int rounds, double *best) {
-    best[0] = best[1] = NEVER;
+// The time of a run from FIRST on, by both, for each of `shares`.
+static bool time_both(uint32_t budget, int repeats, int rounds, uint32_t shares, struct times *times) {
     if (run_ours(FIRST, budget) != run_theirs(FIRST, budget) || !both_keep_alike()) return false;
     for (int round = 0; round < rounds; round++) {
-        least(&best[0], time_runs(run_ours, FIRST, budget, times));
-        least(&best[1], time_runs(run_theirs, FIRST, budget, times));
+        add_time(&times[0], time_runs(run_ours, FIRST, budget, repeats) / shares);
+        add_time(&times[1], time_runs(run_theirs, FIRST, budget, repeats) / shares);
     }
     return true;
 }
@@ -78,53 +77,49 @@ static bool differ(const char *what, uint32_t n) {
 
 // ---- a table: time over a number of units
 
-// Of the rows so far: the least and the largest time of one unit, from a number of units on.
-struct spread {
-    uint32_t from;
-    double low[2], high[2];
-};
-struct table {
-    const char *unit;
-    uint32_t n;
-    double best[2];
-    struct spread spread;
+enum { MOST_ROWS = 8, PASSES = 8 }; // all rows are timed in each pass, so that a slow spell of the machine falls on all
+
+struct row {
+    uint32_t n; // units
+    struct times times[2];
+    double typical[2];
 };
 
-static void begin(struct table *t, const char *title, const char *unit, const char *peer_name, uint32_t from) {
-    *t = (struct table){.unit = unit, .spread = {from, {NEVER, NEVER}, {0, 0}}};
+static void widen(double *low, double *high, double t) {
+    if (*high == 0 || t < *low) *low = t;
+    if (t > *high) *high = t;
+}
+
+// Times, times for one unit, slopes, and the largest time for one unit to the least, from a number of units on.
+static void print_table(const char *title, const char *unit, const char *peer_name, struct row *rows, size_t count, uint32_t from) {
+    double low[2] = {0, 0}, high[2] = {0, 0};
     printf("| %s: %ss | ours, ns | for each %s | slope | %s, ns | for each %s | slope | Ratio |\n|---|---|---|---|---|---|---|---|\n",
            title, unit, unit, peer_name, unit);
-}
-
-static void print_row(struct table *t, uint32_t n, const double *best) {
-    printf("| %u |", n);
-    for (int c = 0; c < 2; c++) {
-        double each = best[c] / n;
-        printf(" %.0f | %.3f |", best[c], each);
-        if (t->n) printf(" %.3f |", (best[c] - t->best[c]) / (n - t->n));
-        else printf(" |");
-        if (n >= t->spread.from) {
-            least(&t->spread.low[c], each);
-            if (each > t->spread.high[c]) t->spread.high[c] = each;
+    for (struct row *r = rows; r < rows + count; r++) {
+        printf("| %u |", r->n);
+        for (int c = 0; c < 2; c++) {
+            r->typical[c] = median(&r->times[c]), free(r->times[c].t);
+            double each = r->typical[c] / r->n;
+            printf(" %.0f | %.3f |", r->typical[c], each);
+            if (r > rows) printf(" %.3f |", (r->typical[c] - r[-1].typical[c]) / (r->n - r[-1].n));
+            else printf(" |");
+            if (r->n >= from) widen(&low[c], &high[c], each);
         }
-        t->best[c] = best[c];
+        printf(" %.2f |\n", r->typical[0] / r->typical[1]);
     }
-    printf(" %.2f |\n", best[0] / best[1]);
-    t->n = n;
-}
-
-static void end(const struct table *t) {
-    const struct spread *s = &t->spread;
-    printf("\nFrom %u %ss on, the largest time for a %s to the least: ours %.2f, the other %.2f.\n\n", s->from, t->unit, t->unit,
-           s->high[0] / s->low[0], s->high[1] / s->low[1]);
+    printf("\nFrom %u %ss on, the largest time for a %s to the least: ours %.2f, the other %.2f.\n\n", from, unit, unit, high[0] / low[0],
+           high[1] / low[1]);
 }
 
 // ---- over pixels
 
 static const uint32_t sizes[][2] = {{1, 1}, {16, 16}, {64, 64}, {160, 100}, {640, 400}, {1280, 800}, {2560, 1600}};
 
-// One command for the rectangle at the top left; a copy brings it up from one row below. The pixels that it paints are returned.
-static uint32_t put_rectangle(uint32_t command, uint32_t w, uint32_t h, uint32_t count) {
+// Small ones are done some times for one reading of the clock.
+static uint32_t times_for(uint32_t pixels) { return 1 + 200000 / (200 + pixels); }
+
+// Equal commands for the rectangle at the top left; a copy brings it up from one row below. Returned are the pixels that one paints.
+static uint32_t put_rectangles(uint32_t command, uint32_t w, uint32_t h, uint32_t count) {
     uint32_t at = FIRST;
     if (command == SVGA_CMD_RECT_COPY && h == HEIGHT) h--;
     for (uint32_t i = 0; i < count; i++) {
@@ -138,20 +133,17 @@ static uint32_t put_rectangle(uint32_t command, uint32_t w, uint32_t h, uint32_t
     return w * h;
 }
 
-// A run of some equal commands, so that the call is shared by them.
 static bool painting_grows(const char *title, uint32_t command, const char *peer_name, int rounds) {
-    struct table t;
-    begin(&t, title, "pixel", peer_name, 4096);
+    struct row rows[MOST_ROWS] = {0};
     set_up_both(WIDTH, HEIGHT);
-    for (size_t i = 0; i < COUNT(sizes); i++) {
-        uint32_t w = sizes[i][0], h = sizes[i][1], count = 1 + 200000 / (200 + w * h);
-        uint32_t pixels = put_rectangle(command, w, h, count);
-        double best[2];
-        if (!runs_timed(ALL, 1, rounds, best)) return differ(title, pixels);
-        best[0] /= count, best[1] /= count;
-        print_row(&t, pixels, best);
+    for (int pass = 0; pass < PASSES; pass++) {
+        for (size_t i = 0; i < COUNT(sizes); i++) {
+            uint32_t w = sizes[i][0], h = sizes[i][1], count = times_for(w * h);
+            rows[i].n = put_rectangles(command, w, h, count);
+            if (!time_both(ALL, 1, rounds, count, rows[i].times)) return differ(title, rows[i].n);
+        }
     }
-    end(&t);
+    print_table(title, "pixel", peer_name, rows, COUNT(sizes), 4096);
     return true;
 }
 
@@ -160,29 +152,28 @@ static uint32_t picture_by_ours(void) {
 }
 static uint32_t picture_by_theirs(void) { return peer_picture(&peer, screen, PIXELS, cursor, SVGA_CURSOR_WORDS, output, PIXELS); }
 
-static double time_pictures(uint32_t (*picture)(void), int times) {
+static double time_pictures(uint32_t (*picture)(void), uint32_t times) {
     double start = now_ns();
-    for (int i = 0; i < times; i++) picture();
+    for (uint32_t i = 0; i < times; i++) picture();
     return (now_ns() - start) / times;
 }
 
 // Pictures in modes of these sizes, without a cursor.
 static bool pictures_grow(int rounds) {
-    struct table t;
-    begin(&t, "Picture", "pixel", "memcpy in C", 4096);
-    for (size_t i = 0; i < COUNT(sizes); i++) {
-        uint32_t w = sizes[i][0], h = sizes[i][1];
-        double best[2] = {NEVER, NEVER};
-        int times = (int)(1 + 200000 / (200 + w * h));
-        set_up_both(w, h);
-        if (picture_by_ours() || picture_by_theirs()) return differ("picture", w * h);
-        for (int round = 0; round < rounds; round++) {
-            least(&best[0], time_pictures(picture_by_ours, times));
-            least(&best[1], time_pictures(picture_by_theirs, times));
+    struct row rows[MOST_ROWS] = {0};
+    for (int pass = 0; pass < PASSES; pass++) {
+        for (size_t i = 0; i < COUNT(sizes); i++) {
+            uint32_t w = sizes[i][0], h = sizes[i][1];
+            rows[i].n = w * h;
+            set_up_both(w, h);
+            if (picture_by_ours() || picture_by_theirs()) return differ("picture", w * h);
+            for (int round = 0; round < rounds; round++) {
+                add_time(&rows[i].times[0], time_pictures(picture_by_ours, times_for(w * h)));
+                add_time(&rows[i].times[1], time_pictures(picture_by_theirs, times_for(w * h)));
+            }
         }
-        print_row(&t, w * h, best);
     }
-    end(&t);
+    print_table("Picture", "pixel", "C device (memcpy)", rows, COUNT(sizes), 4096);
     return true;
 }
 
@@ -190,99 +181,107 @@ static bool pictures_grow(int rounds) {
 
 // All commands in one run.
 static bool commands_grow(const char *title, put_function *put_one, uint32_t most, int rounds) {
-    static const uint32_t counts[] = {1, 8, 64, 512, 4096, 32768};
-    struct table t;
-    begin(&t, title, "command", "C device", 512);
+    const uint32_t counts[] = {1, 8, 64, 512, 4096, 32768, most};
+    struct row rows[MOST_ROWS] = {0};
     set_up_both(WIDTH, HEIGHT);
-    for (size_t i = 0; i <= COUNT(counts); i++) {
-        uint32_t n = i < COUNT(counts) ? counts[i] : most;
-        double best[2];
-        put_commands(put_one, n);
-        if (!runs_timed(ALL, (int)(1 + 2000 / n), rounds, best)) return differ(title, n);
-        print_row(&t, n, best);
+    for (int pass = 0; pass < PASSES; pass++) {
+        for (size_t i = 0; i < COUNT(counts); i++) {
+            rows[i].n = counts[i];
+            put_commands(put_one, counts[i]);
+            if (!time_both(ALL, (int)(1 + 5000 / counts[i]), rounds, 1, rows[i].times)) return differ(title, counts[i]);
+        }
     }
-    end(&t);
+    print_table(title, "command", "C device", rows, COUNT(counts), 512);
     return true;
 }
 
-// A run of budget 1: what waits behind the command is not looked at.
+// ---- what costs nothing: commands that wait behind a budget of 1, and the size of the ring
+
+enum { MOST_COLUMNS = 8 };
+
+// One line for each number, of times that should not depend on it, and the largest of each column to its least.
+static void print_constants(const uint32_t *numbers, struct times (*times)[MOST_COLUMNS], size_t count, int columns) {
+    double low[MOST_COLUMNS] = {0}, high[MOST_COLUMNS] = {0};
+    for (size_t i = 0; i < count; i++) {
+        printf("| %u |", numbers[i]);
+        for (int k = 0; k < columns; k++) {
+            double typical = median(&times[i][k]);
+            free(times[i][k].t);
+            printf(" %.2f |", typical);
+            widen(&low[k], &high[k], typical);
+        }
+        printf("\n");
+    }
+    printf("| largest to least |");
+    for (int k = 0; k < columns; k++) printf(" %.2f |", high[k] / low[k]);
+    printf("\n");
+}
+
 static bool waiting_costs_nothing(uint32_t most, int rounds) {
     const uint32_t counts[] = {1, 64, 4096, most};
-    printf("| Commands waiting, budget 1 | ours, ns | C device, ns |\n|---|---|---|\n");
+    struct times times[MOST_ROWS][MOST_COLUMNS] = {0};
     set_up_both(WIDTH, HEIGHT);
-    for (size_t i = 0; i < COUNT(counts); i++) {
-        double best[2];
-        put_commands(put_fence, counts[i]);
-        if (!runs_timed(1, 1000, rounds, best)) return differ("budget 1", counts[i]);
-        printf("| %u | %.1f | %.1f |\n", counts[i], best[0], best[1]);
+    for (int pass = 0; pass < PASSES; pass++) {
+        for (size_t i = 0; i < COUNT(counts); i++) {
+            put_commands(put_fence, counts[i]);
+            if (!time_both(1, 1000, rounds, 1, times[i])) return differ("budget 1", counts[i]);
+        }
     }
+    printf("| FENCE commands waiting, a run of budget 1 | ours, ns | C device, ns |\n|---|---|---|\n");
+    print_constants(counts, times, COUNT(counts), 2);
     printf("\n");
     return true;
 }
 
-// ---- over the size of the ring
-
 // The same number of commands in each round, going round the ring; by both devices from the same place.
-static bool round_timed(size_t words, put_function *put_one, uint32_t count, int rounds, double *best) {
-    uint32_t stop = FIRST;
-    best[0] = best[1] = NEVER;
+static bool time_round(put_function *put_one, uint32_t count, int rounds, struct times *times) {
+    uint32_t stop = ring[SVGA_FIFO_STOP] / 4;
     for (int round = 0; round < rounds; round++) {
         uint32_t at = stop;
-        for (uint32_t i = 0; i < count; i++) put_one(&at, words, i);
+        for (uint32_t i = 0; i < count; i++) put_one(&at, lent.ring_len, i);
         ring[SVGA_FIFO_NEXT_CMD] = at * 4;
         uint64_t done = (uint64_t)SVGA_ANSWER_DRAINED << 32 | count;
         if (run_ours(stop, ALL) != done || run_theirs(stop, ALL) != done || !both_keep_alike()) return false;
-        least(&best[0], time_runs(run_ours, stop, ALL, 1) / count);
-        least(&best[1], time_runs(run_theirs, stop, ALL, 1) / count);
+        add_time(&times[0], time_runs(run_ours, stop, ALL, 1) / count);
+        add_time(&times[1], time_runs(run_theirs, stop, ALL, 1) / count);
         stop = at;
     }
     return true;
 }
 
-static void time_appends(size_t words, int rounds, double *best) {
+static void time_appends(int rounds, struct times *times) {
     enum { APPENDS = 2000 };
-    best[0] = best[1] = NEVER;
     for (int round = 0; round < rounds; round++) {
         for (int c = 0; c < 2; c++) {
             ring[SVGA_FIFO_STOP] = ring[SVGA_FIFO_NEXT_CMD];
             double start = now_ns();
-            for (uint32_t i = 0; i < APPENDS; i++) c == 0 ? svga_append(ring, words, i) : peer_append(ring, words, i);
-            least(&best[c], (now_ns() - start) / APPENDS);
+            for (uint32_t i = 0; i < APPENDS; i++) c == 0 ? svga_append(ring, lent.ring_len, i) : peer_append(ring, lent.ring_len, i);
+            add_time(&times[c], (now_ns() - start) / APPENDS);
         }
     }
 }
 
 static bool ring_size_costs_nothing(int rounds) {
     static const uint32_t ring_bytes[] = {10240, 20480, 65536, 262144, 1048576, 2097136};
-    enum { COLUMNS = 6 };
-    double low[COLUMNS], high[COLUMNS] = {0};
-    for (int k = 0; k < COLUMNS; k++) low[k] = NEVER;
-    printf("| Ring, bytes | FENCE, ns each | C device | 1x1 fill, ns each | C device | append, ns | C device |\n|---|---|---|---|---|---|---|\n");
-    for (size_t i = 0; i < COUNT(ring_bytes); i++) {
-        double best[COLUMNS];
-        size_t words = FIRST + ring_bytes[i] / 4;
-        lent = (struct lent){ring, words, framebuffer, screen, PIXELS, cursor, WIDTH, HEIGHT};
-        empty_ring(ring, words);
-        our_set_up(&lent), c_set_up(&lent);
-        if (!round_timed(words, put_fence, 1200, rounds * 10, best)) return differ("FENCE in a ring", ring_bytes[i]);
-        if (!round_timed(words, put_dot, 400, rounds * 10, best + 2)) return differ("fills in a ring", ring_bytes[i]);
-        time_appends(words, rounds, best + 4);
-        printf("| %u |", ring_bytes[i]);
-        for (int k = 0; k < COLUMNS; k++) {
-            printf(" %.2f |", best[k]);
-            least(&low[k], best[k]);
-            if (best[k] > high[k]) high[k] = best[k];
+    struct times times[MOST_ROWS][MOST_COLUMNS] = {0};
+    for (int pass = 0; pass < PASSES; pass++) {
+        for (size_t i = 0; i < COUNT(ring_bytes); i++) {
+            size_t words = FIRST + ring_bytes[i] / 4;
+            lent = (struct lent){ring, words, framebuffer, screen, PIXELS, cursor, WIDTH, HEIGHT};
+            empty_ring(ring, words);
+            our_set_up(&lent), c_set_up(&lent);
+            if (!time_round(put_fence, 1200, rounds * 4, times[i])) return differ("FENCE in a ring", ring_bytes[i]);
+            if (!time_round(put_dot, 400, rounds * 4, times[i] + 2)) return differ("fills in a ring", ring_bytes[i]);
+            time_appends(rounds, times[i] + 4);
         }
-        printf("\n");
     }
-    printf("| largest to least |");
-    for (int k = 0; k < COLUMNS; k++) printf(" %.2f |", high[k] / low[k]);
-    printf("\n");
+    printf("| Bytes of the ring | FENCE, ns each | C device | 1x1 fill, ns each | C device | append, ns | C device |\n|---|---|---|---|---|---|---|\n");
+    print_constants(ring_bytes, times, COUNT(ring_bytes), 6);
     return true;
 }
 
 int main(int argc, char **argv) {
-    int rounds = rounds_from(argc, argv, 50);
+    int rounds = rounds_from(argc, argv, 10);
     ring = new_words(RING_WORDS), cursor = new_words(SVGA_CURSOR_WORDS), output = new_words(PIXELS);
     framebuffer = new_words(PIXELS), screen = new_words(PIXELS);
 

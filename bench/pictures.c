@@ -4,7 +4,7 @@
 //   pixman     composites the screen, and the cursor OVER it. pixman takes colours that are multiplied by alpha already and rounds
 //              otherwise, so its picture is another one: it only shows what such a blend costs
 // First some thousand small pictures, most with a cursor over an edge, are made by both devices and compared whole.
-// The exit status is 1 if one differs, and 0 otherwise.
+// All contenders of a row run in turn, and the median of all rounds counts. The exit status is 1 if one differs, and 0 otherwise.
 //
 //   pictures [ROUNDS]        (default 50)
 #include "both.h"
@@ -111,16 +111,17 @@ static void close_images(void) {
     if (pixman_cursor) pixman_image_unref(pixman_cursor);
 }
 
-static void print_row(const char *name, const double *best) {
-    printf("| %ux%u, %s | %.0f |", width, height, name, best[0]);
-    for (int c = 1; c < CONTENDERS; c++) printf(" %.0f | %.2f |", best[c], best[0] / best[c]);
+static void print_row(const char *name, const double *typical) {
+    printf("| %ux%u, %s | %.0f |", width, height, name, typical[0]);
+    for (int c = 1; c < CONTENDERS; c++) printf(" %.0f | %.2f |", typical[c], typical[0] / typical[c]);
     printf("\n");
 }
 
 // Small pictures are made some times for one reading of the clock.
 static bool measure(const char *name, int rounds) {
-    double best[CONTENDERS] = {NEVER, NEVER, NEVER, NEVER};
-    int times = 1 + 100000 / (int)(width * height);
+    struct times times[CONTENDERS] = {0};
+    double typical[CONTENDERS];
+    int repeats = 1 + 100000 / (int)(width * height);
     set_up_both(width, height, SVGA_PIXELS_MAX, &shown);
     if (!pictures_agree(SVGA_PIXELS_MAX)) {
         printf("MISMATCH: picture of %ux%u, %s\n", width, height, name);
@@ -130,12 +131,13 @@ static bool measure(const char *name, int rounds) {
     for (int round = 0; round < rounds; round++) {
         for (int c = 0; c < CONTENDERS; c++) {
             double start = now_ns();
-            for (int i = 0; i < times; i++) contender[c]();
-            least(&best[c], (now_ns() - start) / times);
+            for (int i = 0; i < repeats; i++) contender[c]();
+            add_time(&times[c], (now_ns() - start) / repeats);
         }
     }
     close_images();
-    print_row(name, best);
+    for (int c = 0; c < CONTENDERS; c++) typical[c] = median(&times[c]), free(times[c].t);
+    print_row(name, typical);
     return true;
 }
 

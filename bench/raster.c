@@ -1,7 +1,7 @@
 // Speed of the painters, as C calls them: a Markdown table of our time, a peer's time, their ratio and the target.
 // First some thousand random rectangles, hostile ones too, are compared with a plain loop over the pixels.
 // The exit status is 1 if one differs, and 0 otherwise: a missed target is only marked in the table.
-// Both buffers are written before anything is timed. All contenders of a row run in turn, and the least time of all rounds counts.
+// Both buffers are written before anything is timed. All contenders of a row run in turn, and the median of all rounds counts.
 //
 //   raster [ROUNDS]        (default 100)
 #include "common.h"
@@ -131,20 +131,22 @@ static double time_jobs(const struct contender *c, const struct job *jobs, size_
     return (now_ns() - start) / (double)count;
 }
 
-static void print_row(const char *size, const struct comparison *c, int reference, const double *best) {
-    printf("| %s %s | %.0f | %s | %.0f |", size, c->title, best[0], c->reference[reference].name, best[1 + reference]);
-    print_ratio(best[0] / best[1 + reference], c->reference[reference].target);
+static void print_row(const char *size, const struct comparison *c, int reference, const double *typical) {
+    printf("| %s %s | %.0f | %s | %.0f |", size, c->title, typical[0], c->reference[reference].name, typical[1 + reference]);
+    print_ratio(typical[0] / typical[1 + reference], c->reference[reference].target);
     printf("\n");
 }
 
 static void compare(const char *size, const struct comparison *c, const struct job *jobs, size_t count, int rounds) {
-    double best[3] = {NEVER, NEVER, NEVER};
+    struct times times[3] = {0};
+    double typical[3];
     int references = c->reference[1].name ? 2 : 1;
     for (int round = 0; round < rounds; round++) {
-        least(&best[0], time_jobs(&c->ours, jobs, count));
-        for (int r = 0; r < references; r++) least(&best[1 + r], time_jobs(&c->reference[r], jobs, count));
+        add_time(&times[0], time_jobs(&c->ours, jobs, count));
+        for (int r = 0; r < references; r++) add_time(&times[1 + r], time_jobs(&c->reference[r], jobs, count));
     }
-    for (int r = 0; r < references; r++) print_row(size, c, r, best);
+    for (int k = 0; k <= references; k++) typical[k] = median(&times[k]), free(times[k].t);
+    for (int r = 0; r < references; r++) print_row(size, c, r, typical);
 }
 
 // ---- what is measured
@@ -155,7 +157,7 @@ static const struct comparison whole_screen[] = {
     {"update", {"ours", our_update, 0}, {{"pixman_blt", pixman_updates, 1.05}, {"memcpy, whole", memcpy_updates, 1.05}}},
 };
 static const struct comparison moved_screen[] = {
-    {"copy", {"ours", our_copy, 0}, {{"memmove per row", memmove_copies, 1.05}}},
+    {"copy", {"ours", our_copy, 0}, {{"memmove per row", memmove_copies, 1.05}, {"ours again", our_copy, 0}}}, // the second: what is noise
     {"XOR copy", {"ours", our_xor_copy, 0}, {{"C XOR loop", loop_xor_copies, 1.25}}},
 };
 static const struct comparison small[] = {

@@ -1,7 +1,7 @@
 // Speed of a run: streams of small commands with a large budget, run by our device and by a device in plain C, on the same memories.
 // A Markdown table of the time for one command, ours and the C device's, and of the same rectangles painted directly, with nothing parsed.
 // First some thousand small hostile rings are run by both devices and compared whole. Before a stream is timed, each contender runs it from
-// one screen and has to end with the same screen; then all run in turn, and the least time of all rounds counts. A device is made and set up
+// one screen and has to end with the same screen; then all run in turn, and the median of all rounds counts. A device is made and set up
 // anew for each stream, which is timed with it.
 // The exit status is 1 if anything differs, and 0 otherwise: a missed target is only marked in the table.
 //
@@ -207,24 +207,26 @@ static bool all_agree(void) {
 }
 
 static bool measure(enum kind kind, int rounds) {
-    double best[CONTENDERS] = {NEVER, NEVER, NEVER, NEVER};
+    struct times times[CONTENDERS] = {0};
+    double typical[CONTENDERS];
     make_stream(kind);
     bool agree = all_agree();
     for (int round = 0; agree && round < rounds; round++) {
         for (int c = 0; c < CONTENDERS; c++) {
             double start = now_ns();
             agree = run_stream(c) && agree;
-            least(&best[c], (now_ns() - start) / (double)job_count);
+            add_time(&times[c], (now_ns() - start) / (double)job_count);
         }
     }
     if (!agree) {
         printf("MISMATCH: %s\n", kind_name[kind]);
         return false;
     }
-    printf("| %s | %zu | %.1f | %.1f |", kind_name[kind], job_count, best[0], best[1]);
-    print_ratio(best[0] / best[1], TARGET);
+    for (int c = 0; c < CONTENDERS; c++) typical[c] = median(&times[c]), free(times[c].t);
+    printf("| %s | %zu | %.1f | %.1f |", kind_name[kind], job_count, typical[0], typical[1]);
+    print_ratio(typical[0] / typical[1], TARGET);
     if (kind == FENCES) printf(" | |\n");
-    else printf(" %.1f | %.1f |\n", best[2], best[3]);
+    else printf(" %.1f | %.1f |\n", typical[2], typical[3]);
     return true;
 }
 
