@@ -5,9 +5,9 @@ use native.Mathlib.Omega.{arith}
 use lib.ListN.{length}
 use borrow.Author.Needs.{needs}
 use Rattle.geometry.specs.Pixels.{inRect}
-use Rattle.geometry.specs.Parts.{doneFrom}
+use Rattle.geometry.specs.Parts.{doneFrom, Ordered}
 use Rattle.geometry.proofs.Painted.{Done}
-use Rattle.geometry.proofs.Rows.{row-room, rows-none, rows-ordered, copiedAt, row-copied, next-fits, rows-done}
+use Rattle.geometry.proofs.Rows.{row-room, rows-none, rows-ordered, places-ordered, copiedAt, row-copied, next-fits, rows-done}
 use Rattle.raster.specs.CutPainters.{movedCut}
 use Rattle.raster.proofs.move_cut.Statement.{statement}
 use Rattle.raster.proofs.move_cut.Tie as tie
@@ -38,13 +38,21 @@ module _ (c : tie.After-next-row Inv-loop μ-loop) where
   to-room : (Start c .args .area .y + j) * Start c .args .width + Start c .args .area .x + Start c .args .area .w ≤ length (Start c .args .screen .now)
   to-room = row-room (Start c .pre .0) turn
 
+  ordered : Ordered (c .before .before .before .before .before .before .before .comes-after .result) ((Start c .args .sy + j) * Start c .args .width + Start c .args .sx)
+      ((Start c .args .area .y + j) * Start c .args .width + Start c .args .area .x)
+  ordered =
+      let a = Start c .args in
+      let from = Start c .pre .1 .0 .across in
+      let to = Start c .pre .0 .across in
+      places-ordered (c .before .before .before .before .before .before .before .comes-after .result) (a .sx) (a .sy) (a .area .x) (a .area .y) (c .before .before .before .before .before .before .before .comes-after .ensures) (a .width) j (omega arith) (omega arith)
+
 loop-holds : tie.Need-loop-holds Inv-loop μ-loop
 loop-holds c = (search needs, rows-none _ _ _ _ _ _)
 
-move-row-requires : tie.Need-move-row-requires Inv-loop μ-loop
-move-row-requires c κs =
+plain-row-requires : tie.Need-plain-row-requires Inv-loop μ-loop
+plain-row-requires c κs =
     let start = Start (c .before) in
-    omega (arith, from-room (c .before), to-room (c .before), start .pre .0 .across, start .pre .1 .1)
+    (omega (arith, from-room (c .before), to-room (c .before), start .pre .0 .across, start .pre .1 .1), ordered (c .before))
 
 loop-again : tie.Need-loop-again Inv-loop μ-loop
 loop-again c =
@@ -54,7 +62,7 @@ loop-again c =
       search needs,
       row-copied (back .result) (a .width) (a .sx) (a .sy) (a .area .x) (a .area .y) (a .area .w) (a .area .h) (c .before .before .before .before .before .before .loop .done) (λ s d. s) (a .screen .now) _
           (rows-ordered (back .result) (a .sx) (a .sy) (a .area .x) (a .area .y) (back .ensures)) (c .before .before .before .before .before .before .loop .inv .1) (omega arith) (start .pre .0) (start .pre .1 .0) _
-          (rw (c .before .before .before .before .next-row .ensures) at (c .before .before .move-row .ensures)),
+          (rw (c .before .before .before .before .next-row .ensures) at (c .before .before .plain-row .ensures)),
     )
 
 returns : tie.Need-returns Inv-loop μ-loop
@@ -69,4 +77,4 @@ move-cut-spec =
     (tie.spec Inv-loop μ-loop (λ c κs. search needs) (λ c. search needs) (λ c. search needs) (λ c. search needs)
     (λ c. search needs) loop-holds (λ c κs. omega arith) (λ c. omega (arith, turn c)) (λ c. omega (arith, from-room c))
     (λ c. omega (arith, from-room c)) (λ c. omega (arith, turn c)) (λ c. omega (arith, to-room c)) (λ c. omega (arith, to-room c))
-    move-row-requires (λ c. search needs) (λ c. search needs) loop-again (λ c. search needs) returns)
+    plain-row-requires (λ c. search needs) (λ c. search needs) loop-again (λ c. search needs) returns)
