@@ -8,6 +8,8 @@ use native.Mathlib.Omega.{arith}
 use native.Mathlib.Nat.{add-zero}
 use lib.Dec.{leb}
 use lib.ListN.{length, getD}
+use borrow.Author.Tests.{leb-true, le-leb}
+use Rattle.geometry.proofs.Tests.{both}
 use Rattle.order.specs.declared.End.the-variants.{Waiting, Fault}
 use Rattle.order.specs.declared.Cause.the-variants.{NotOffered}
 use Rattle.ring.proofs.WaitingLaws.{InRing, by-test, getD-straight}
@@ -17,13 +19,17 @@ use Rattle.command.specs.declared.Command.{Command}
 use Rattle.command.specs.declared.Action.{Action}
 use Rattle.command.specs.declared.Action.the-variants as A
 use Rattle.command.specs.declared.Turn.{Turn}
-use Rattle.command.specs.declared.Turn.the-variants.{Ends}
+use Rattle.command.specs.declared.Turn.the-variants.{Ends, Executes}
 use Rattle.command.specs.Commands.{kindOf, offered, headWords, sizeOf, headGood, operandsGood, actionOf, turnOn}
 use Rattle.command.specs.Words.{decoded, turnWords}
 use Rattle.run.specs.declared.View.{View}
 use Rattle.run.specs.declared.Head.{Head}
-use Rattle.run.specs.Turns.{InView, wordsIn}
-use Rattle.run.specs.Heads.{headIn, headFrom, commandOf, updateIn, fillIn, copyIn, fixedTurn, onHead, turnHead}
+use Rattle.run.specs.Turns.{InView, wordsIn, near}
+use Rattle.run.specs.Heads.{headIn, headFrom, commandOf, updateIn, fillIn, copyIn, fixedTurn, onHead, turnHead, plainSize, plainAction, fenceAfter}
+use Rattle.run.specs.Going.{marked}
+use Rattle.cursor.specs.declared.Defined.{Defined}
+use Rattle.effect.specs.Effects.{cursorAfter, marksAfter}
+use Rattle.ring.specs.Waiting.{carried}
 use Rattle.run.proofs.Laws.{turn-view}
 
 -- eight words that wait before the ring's end are the first eight of the view
@@ -80,6 +86,50 @@ module _ (h : Head) (n cap : ℕ) where
   unfolding turnHead headWords commandOf headGood sizeOf operandsGood actionOf
   fixed-fence = fixed-turn _ (commandOf K.Fence h) 3 2 n cap refl refl refl refl
 
+-- a plain command whose words are all there is executed
+fixed-executes : (a : Action) (size n cap : ℕ) → size ≤ n → size ≤ cap → fixedTurn a 3 size n cap ≡ Executes a size
+unfolding fixedTurn
+fixed-executes a size n cap p q = rw (le-leb size n p, le-leb size cap q)
+
+plain-executes : (k : Kind) (h : Head) (n cap : ℕ) → (plainSize k ≡ 0 → ⊥) → 7 ≤ n → 7 ≤ cap → turnHead k h n cap ≡ Executes (plainAction k h) (plainSize k)
+unfolding plainSize plainAction
+plain-executes K.Update h n cap some p q = sym (fixed-update h n cap) ∙ fixed-executes _ 5 n cap (omega arith) (omega arith)
+plain-executes K.RectFill h n cap some p q = sym (fixed-fill h n cap) ∙ fixed-executes _ 6 n cap (omega arith) (omega arith)
+plain-executes K.RectCopy h n cap some p q = sym (fixed-copy h n cap) ∙ fixed-executes _ 7 n cap (omega arith) (omega arith)
+plain-executes K.RectRopFill h n cap some p q = absurd (some refl)
+plain-executes K.RectRopCopy h n cap some p q = absurd (some refl)
+plain-executes K.DefineAlphaCursor h n cap some p q = absurd (some refl)
+plain-executes K.UpdateVerbose h n cap some p q = sym (fixed-verbose h n cap) ∙ fixed-executes _ 6 n cap (omega arith) (omega arith)
+plain-executes K.Fence h n cap some p q = sym (fixed-fence h n cap) ∙ fixed-executes _ 2 n cap (omega arith) (omega arith)
+plain-executes K.Escape h n cap some p q = absurd (some refl)
+plain-executes K.Foreign h n cap some p q = absurd (some refl)
+
+pub plain-marks : (k : Kind) (h : Head) (fence : ℕ) (defined : Defined) → marked (fenceAfter k h fence) defined ≡ marksAfter (plainAction k h) (marked fence defined)
+unfolding fenceAfter plainAction marksAfter
+plain-marks K.Update h fence defined = refl
+plain-marks K.RectFill h fence defined = refl
+plain-marks K.RectCopy h fence defined = refl
+plain-marks K.RectRopFill h fence defined = refl
+plain-marks K.RectRopCopy h fence defined = refl
+plain-marks K.DefineAlphaCursor h fence defined = refl
+plain-marks K.UpdateVerbose h fence defined = refl
+plain-marks K.Fence h fence defined = refl
+plain-marks K.Escape h fence defined = refl
+plain-marks K.Foreign h fence defined = refl
+
+pub plain-cursor : (k : Kind) (h : Head) (words cursor : List ℕ) → cursor ≡ cursorAfter (plainAction k h) words cursor
+unfolding plainAction cursorAfter
+plain-cursor K.Update h words cursor = refl
+plain-cursor K.RectFill h words cursor = refl
+plain-cursor K.RectCopy h words cursor = refl
+plain-cursor K.RectRopFill h words cursor = refl
+plain-cursor K.RectRopCopy h words cursor = refl
+plain-cursor K.DefineAlphaCursor h words cursor = refl
+plain-cursor K.UpdateVerbose h words cursor = refl
+plain-cursor K.Fence h words cursor = refl
+plain-cursor K.Escape h words cursor = refl
+plain-cursor K.Foreign h words cursor = refl
+
 -- words give the command that their head gives
 decoded-head : (k : Kind) (w : List ℕ) → decoded k w ≡ commandOf k (headIn w)
 unfolding decoded commandOf
@@ -106,3 +156,17 @@ turn-head ring v cap some =
 pub turn-by-head : (ring : List ℕ) (v : View) (cap : ℕ) (h : Head) (k : Kind) (t : Turn) → (v .n ≡ 0 → ⊥)
     → h ≡ headIn (wordsIn ring v) → k ≡ kindOf (h .number) → t ≡ turnHead k h (v .n) cap → t ≡ turnWords cap (wordsIn ring v)
 turn-by-head ring v cap h k t some head kind is = is ∙ rw (kind, head) (sym (turn-head ring v cap some))
+
+pub near-says : (v : View) → near v ≡ true → (8 ≤ v .n) × (8 ≤ v .hi - v .at)
+unfolding near
+near-says v e = let p = both (leb 8 (v .n)) (leb 8 (v .hi - v .at)) e in (leb-true _ _ (p .0), leb-true _ _ (p .1))
+
+-- a turn on a plain command whose head does not wrap
+pub plain-turn : (ring : List ℕ) (v : View) (h : Head) (k : Kind) (size : ℕ) → InView v (length ring) → near v ≡ true → h ≡ headFrom ring (v .at) → k ≡ kindOf (h .number)
+    → size ≡ plainSize k → (size ≡ 0 → ⊥) → turnWords (carried (v .lo) (v .hi)) (wordsIn ring v) ≡ Executes (plainAction k h) size
+plain-turn ring v h k size inside row head kind is some =
+    let p = near-says v row in
+    let i = inside .held in
+    sym (turn-by-head ring v _ h k _ (λ e. absurd (omega arith)) (head ∙ head-near ring v inside (p .0) (p .1)) kind refl)
+    ∙ plain-executes k h (v .n) _ (λ e. some (is ∙ e)) (omega arith) (omega arith)
+    ∙ ap (Executes (plainAction k h)) (sym is)

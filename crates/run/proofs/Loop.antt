@@ -2,6 +2,7 @@
 -- Assumes nothing.
 use mathlib.Core.Path.{_≡_, refl, sym, ap, ap₂, _∙_}
 use mathlib.Core.Bool.{cond}
+use mathlib.Core.Logic.{_≢_}
 use mathlib.Core.List.{List}
 use Prim.Native.Nat.{ℕ, suc, _+_, _-_, _*_, _≤_, _<_}
 use native.Mathlib.Omega.{arith}
@@ -10,11 +11,9 @@ use native.Mathlib.Numerals.{add-one}
 use lib.Seq.{set-set, drop-drop}
 use lib.Dec.{eqb, ltb}
 use lib.ListN.{length, take, drop, length-drop, length-set}
-use borrow.Author.Tests.{ltb-true, ltb-false, lt-ltb, le-ltb, ne-eqb}
+use borrow.Author.Tests.{ltb-true, ltb-false, lt-ltb, le-ltb, eqb-true, eqb-false, ne-eqb}
 use Rattle.order.specs.declared.End.{End}
-use Rattle.order.specs.Straight.{Line, ends}
-use Rattle.order.specs.Straight as O
-use Rattle.order.specs.Table.{turnOf}
+use Rattle.order.specs.Straight.{Line}
 use Rattle.order.specs.Claim as Claim
 use Rattle.order.specs.Queue.{Ran, oneMore, runs}
 use Rattle.order.proofs.QueueLaws.{runs-ends, runs-exec}
@@ -26,24 +25,17 @@ use Rattle.command.specs.declared.Turn.{Turn}
 use Rattle.command.specs.declared.Turn.the-variants.{Ends, Executes}
 use Rattle.command.specs.Words.{turnWords}
 use Rattle.command.proofs.Laws.{asTurn, turn-words}
-use Rattle.cursor.specs.declared.Defined.{Defined}
 use Rattle.effect.specs.declared.Marks.{Marks}
 use Rattle.effect.specs.Effects.{Machine, screenAfter, cursorAfter, marksAfter, done}
 use Rattle.run.specs.declared.View.{View}
 use Rattle.run.specs.Turns.{wordsIn, InView, passedIn, Ready}
-use Rattle.run.specs.Run.{Scene, machine, table, placeOf, passed, stamped, left, runWords}
+use Rattle.run.specs.Run.{Scene, machine, placeOf, passed, stamped, left, runWords}
+use Rattle.run.specs.Going.{plus, line, turn, Going}
 use Rattle.run.proofs.Found.{found}
 
 -- what an action does in a scene
 abbrev does : Scene → Action → List ℕ → Machine → Machine
 does s = done (s .width) (s .rows) (s .framebuffer)
-
--- so many commands before a run
-abbrev plus : ℕ → Ran Machine → Ran Machine
-plus k r = record { answer = r .answer; count = k + r .count; line = r .line }
-
-abbrev line : List ℕ → Machine → Line Machine
-line w m = record { words = w; machine = m }
 
 plus-zero : (r : Ran Machine) → r ≡ plus 0 r
 plus-zero r = λ i. record { answer = r .answer; count = sym (zero-add (r .count)) i; line = r .line }
@@ -56,6 +48,12 @@ plus-one k r = λ i. record { answer = r .answer; count = moved i; line = r .lin
   where
     moved : k + suc (r .count) ≡ suc k + r .count
     moved = omega arith
+
+plus-plus : (j k : ℕ) (r : Ran Machine) → plus j (plus k r) ≡ plus (j + k) r
+plus-plus j k r = λ i. record { answer = r .answer; count = together i; line = r .line }
+  where
+    together : j + (k + r .count) ≡ j + k + r .count
+    together = omega arith
 
 -- k words on, and n more
 ahead-ahead : (lo hi p k n : ℕ) → lo ≤ p → p < hi → k + n + lo ≤ hi → ahead lo hi (ahead lo hi p k) n ≡ ahead lo hi p (k + n)
@@ -82,6 +80,16 @@ stamped-again count to at ring₀ ring e =
     rw (ne-eqb (suc count) 0 (omega arith))
     (by-test (eqb count 0) (λ t. rw (e, t)) (λ t. rw (e, t) (set-set ring₀ 3 (at .stop * 4) (to .stop * 4))))
 
+-- and after further commands, or none
+stamped-further : (count k : ℕ) (at to : Ring) (ring₀ ring later : List ℕ) → (k ≡ 0 → to ≡ at) → ring ≡ cond (eqb count 0) ring₀ (stamped at ring₀)
+    → later ≡ cond (eqb k 0) ring (stamped to ring) → later ≡ cond (eqb (count + k) 0) ring₀ (stamped to ring₀)
+unfolding stamped
+stamped-further count k at to ring₀ ring later same p q =
+    by-test (eqb k 0)
+    (λ t. let z = eqb-true k 0 t in let c : count + k ≡ count = omega arith in rw (q, t, p, c, same z))
+    (λ t. let z : k ≢ 0 = eqb-false k 0 t in rw (q, t, ne-eqb (count + k) 0 (omega arith))
+    (by-test (eqb count 0) (λ e. rw (p, e)) (λ e. rw (p, e) (set-set ring₀ 3 (at .stop * 4) (to .stop * 4)))))
+
 -- an action goes by its command's own words
 done-own : (s : Scene) (a : Action) (n : ℕ) (w : List ℕ) (m : Machine) → ((cursor : List ℕ) → cursorAfter a (take n w) cursor ≡ cursorAfter a w cursor)
     → does s a (take n w) m ≡ does s a w m
@@ -92,9 +100,6 @@ done-own s a n w m own = λ i. record {
   marks = marksAfter a (m .marks);
 }
 
-abbrev pub marked : ℕ → Defined → Marks
-marked fence defined = record { fence = fence; defined = defined }
-
 -- the parts of what an action does
 all-done : (s : Scene) (a : Action) (w : List ℕ) (m : Machine) (marks : Marks) (screen cursor : List ℕ)
     → screen ≡ screenAfter (s .width) (s .rows) (s .framebuffer) a (m .screen) → cursor ≡ cursorAfter a w (m .cursor) → marks ≡ marksAfter a (m .marks)
@@ -102,32 +107,17 @@ all-done : (s : Scene) (a : Action) (w : List ℕ) (m : Machine) (marks : Marks)
 unfolding done
 all-done s a w m marks screen cursor p q r = λ i. record { screen = p i; cursor = q i; marks = r i }
 
-pub by-action : {a b : Action} {n : Marks} (m : Marks) → a ≡ b → n ≡ marksAfter b m → n ≡ marksAfter a m
-by-action {a} {b} {n} m e q = rw e q
-
 same-view : (v : View) (a n : ℕ) → a ≡ v .at → n ≡ v .n → v ≡ record { lo = v .lo; hi = v .hi; at = a; n = n }
 same-view v a n p q = λ i. record { lo = v .lo; hi = v .hi; at = sym p i; n = sym q i }
 
--- straight execution's turn, in the ring of a view
-abbrev turn : Scene → View → Machine → List ℕ → O.Turn Machine
-turn s v = turnOf (carried (v .lo) (v .hi)) (table s)
-
 module _ (s : Scene) (budget : ℕ) (v₀ : View) (ring₀ : List ℕ) (m₀ : Machine) where
-  -- After so many commands the view is behind `gone` words, ring word 3 says so, and the run still to do from here is the whole run.
-  pub record Going (v : View) (ring : List ℕ) (m : Machine) (count : ℕ) : Type 0 where
-    pub bounded : count ≤ budget
-    pub gone : ℕ
-    pub part : gone ≤ v₀ .n
-    pub view : v ≡ passedIn v₀ gone
-    pub memory : ring ≡ cond (eqb count 0) ring₀ (stamped (placeOf v) ring₀)
-    pub rest : runs (turn s v₀) budget (line (wordsIn ring₀ v₀) m₀) ≡ plus count (runs (turn s v₀) (budget - count) (line (drop gone (wordsIn ring₀ v₀)) m))
-
   -- nothing is done yet
-  pub going-start : InView v₀ (length ring₀) → Going v₀ ring₀ m₀ 0
+  pub going-start : InView v₀ (length ring₀) → Going s budget v₀ ring₀ m₀ v₀ ring₀ m₀ 0
   going-start i = record {
     bounded = omega arith;
     gone = 0;
     part = omega arith;
+    still = λ e. refl;
     view = same-view v₀ _ _ (ahead-zero (v₀ .lo) (v₀ .hi) (v₀ .at) (i .below)) (omega arith);
     memory = refl;
     rest = let e : budget - 0 ≡ budget = omega arith in rw e (plus-zero _);
@@ -204,6 +194,7 @@ module _ {s : Scene} {budget : ℕ} {v₀ : View} {ring₀ : List ℕ} {m₀ : M
         bounded = omega arith;
         gone = g .gone + n;
         part = more;
+        still = λ e. omega arith;
         view = ap (λ (x : View). passedIn x n) (g .view) ∙ passed-passed v₀ (g .gone) n (inside .from) (inside .below) (omega (arith, inside .held));
         memory = stamped-again count (placeOf (passedIn v n)) (placeOf v) ring₀ ring (g .memory);
         rest = g .rest ∙ rw (one-more h, runs-exec (turn s v₀) (budget - suc count) (line (drop (g .gone) (wordsIn ring₀ v₀)) m) n _ (turned _ q)) (plus-one count _ ∙ ap (λ (x : Line Machine). plus (suc count) (runs (turn s v₀) (budget - suc count) x)) (λ i. line (drop-drop n (g .gone) (wordsIn ring₀ v₀) i) (own-machine i)));
@@ -223,6 +214,25 @@ module _ {s : Scene} {budget : ℕ} {v₀ : View} {ring₀ : List ℕ} {m₀ : M
       → Going s budget v₀ ring₀ m₀ to (stamped (placeOf to) ring) (machine marks screen cursor) (count + 1)
   going-more a n h q to marks screen cursor p e f r = going-again a n h q to _ p (all-done s a (wordsIn ring v) m marks screen cursor e f r)
 
+  -- commands from here on belong to the whole
+  pub going-further : {to : View} {later : List ℕ} {after : Machine} {k : ℕ} → Going s (budget - count) v ring m to later after k
+      → Going s budget v₀ ring₀ m₀ to later after (count + k)
+  going-further {to} {later} {after} {k} f =
+      let n : v .n ≡ v₀ .n - g .gone = ap (λ (x : View). x .n) (g .view) in
+      let part : g .gone + f .gone ≤ v₀ .n = omega (arith, f .part, g .part) in
+      let none : f .gone ≡ 0 → to ≡ v = λ z. f .view ∙ rw z (sym (same-view v _ _ (ahead-zero (v .lo) (v .hi) (v .at) (in-view .below)) (omega arith))) in
+      let fewer : budget - count - k ≡ budget - (count + k) = omega arith in
+      let there = rw (words-now, ap (λ (x : View). x .lo) (g .view), ap (λ (x : View). x .hi) (g .view)) at (f .rest) in
+      record {
+        bounded = omega (arith, f .bounded, g .bounded);
+        gone = g .gone + f .gone;
+        part = part;
+        still = λ e. let a = g .still (omega arith) in let b = f .still (omega arith) in omega arith;
+        view = f .view ∙ ap (λ (x : View). passedIn x (f .gone)) (g .view) ∙ passed-passed v₀ (g .gone) (f .gone) (inside .from) (inside .below) (omega (arith, inside .held));
+        memory = stamped-further count k (placeOf v) (placeOf to) ring₀ ring later (λ z. ap placeOf (none (f .still z))) (g .memory) (f .memory);
+        rest = g .rest ∙ ap (λ (r : Ran Machine). plus count r) there ∙ plus-plus count k _ ∙ ap₂ (λ (b : ℕ) (w : List ℕ). plus (count + k) (runs (turn s v₀) b (line w after))) fewer (drop-drop (f .gone) (g .gone) (wordsIn ring₀ v₀));
+      }
+
   -- what executing it asks for
   pub can-execute : (a : Action) (n : ℕ) → turnWords (carried (v .lo) (v .hi)) (wordsIn ring v) ≡ Executes a n → Ready a (v .n)
   can-execute a n q = rw (length-words ring (v .lo) (v .hi) (v .at) (v .n)) at (found _ _ a n q .ready)
@@ -234,6 +244,10 @@ module _ {s : Scene} {budget : ℕ} {v₀ : View} {ring₀ : List ℕ} {m₀ : M
 
     pub in-place : (v .lo ≤ v .hi) × (v .at ≤ v .hi) × (v .hi ≤ 524288)
     in-place = let e = same-ends in let i = in-view in (omega arith, omega arith, omega arith)
+
+    -- the view is one from which turns may start
+    pub can-start : InView v (length ring) × ((4 ≤ v .lo) × (v .hi ≤ 524288))
+    can-start = let e = same-ends in (in-view, (omega arith, in-place .2))
 
     pub can-pass : (a : Action) (n : ℕ) → turnWords (carried (v .lo) (v .hi)) (wordsIn ring v) ≡ Executes a n
         → (v .lo ≤ v .at) × (v .at < v .hi) × (n ≤ v .n) × (v .n + v .lo ≤ v .hi) × (v .hi ≤ 524288)

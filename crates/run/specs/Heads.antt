@@ -1,4 +1,5 @@
 -- A turn by the words of a command's head: document 01, "One command out of the ring". The words of a view come to these by `headIn`.
+use mathlib.Core.Path.{_≡_}
 use Prim.Native.Nat.{ℕ, _+_}
 use mathlib.Core.Bool.{cond}
 use mathlib.Core.List.{List}
@@ -19,6 +20,8 @@ use Rattle.command.specs.declared.Turn.{Turn}
 use Rattle.command.specs.declared.Turn.the-variants.{Ends, Executes}
 use Rattle.command.specs.Commands.{offered, headWords, turnOn}
 use Rattle.run.specs.declared.Head.{Head}
+use Rattle.run.specs.declared.Next.{Next}
+use Rattle.run.specs.declared.Next.the-variants.{Unread, Read}
 
 -- The first eight words.
 abbrev pub headIn : List ℕ → Head
@@ -100,3 +103,47 @@ onHead head command n carries = cond (leb head n) (turnOn command n carries) (En
 -- A turn where words wait, by the first one's kind.
 unfoldable pub turnHead : Kind → Head → ℕ → ℕ → Turn
 turnHead kind h n carries = cond (offered kind) (onHead (headWords kind) (commandOf kind h) n carries) (Ends (Fault NotOffered))
+
+-- What is known of the next command is what waits.
+abbrev pub Known : Next → List ℕ → Type 0
+Known Unread words = Unit {0}
+Known (Read h) words = h ≡ headIn words
+
+-- Plain commands, which only paint or set the fence and have nothing to be refused for: their sizes, 0 for any other,
+unfoldable pub plainSize : Kind → ℕ
+plainSize K.Update = 5
+plainSize K.RectFill = 6
+plainSize K.RectCopy = 7
+plainSize K.RectRopFill = 0
+plainSize K.RectRopCopy = 0
+plainSize K.DefineAlphaCursor = 0
+plainSize K.UpdateVerbose = 6
+plainSize K.Fence = 2
+plainSize K.Escape = 0
+plainSize K.Foreign = 0
+
+-- what they do,
+unfoldable pub plainAction : Kind → Head → Action
+plainAction K.Update h = updateIn h
+plainAction K.RectFill h = fillIn h 3
+plainAction K.RectCopy h = copyIn h 3
+plainAction K.RectRopFill h = A.Nothing
+plainAction K.RectRopCopy h = A.Nothing
+plainAction K.DefineAlphaCursor h = A.Nothing
+plainAction K.UpdateVerbose h = updateIn h
+plainAction K.Fence h = A.Fence (h .w1)
+plainAction K.Escape h = A.Nothing
+plainAction K.Foreign h = A.Nothing
+
+-- and the fence that they leave.
+unfoldable pub fenceAfter : Kind → Head → ℕ → ℕ
+fenceAfter K.Update h fence = fence
+fenceAfter K.RectFill h fence = fence
+fenceAfter K.RectCopy h fence = fence
+fenceAfter K.RectRopFill h fence = fence
+fenceAfter K.RectRopCopy h fence = fence
+fenceAfter K.DefineAlphaCursor h fence = fence
+fenceAfter K.UpdateVerbose h fence = fence
+fenceAfter K.Fence h fence = h .w1
+fenceAfter K.Escape h fence = fence
+fenceAfter K.Foreign h fence = fence

@@ -1,3 +1,4 @@
 pub mod Turns
 pub mod Heads
 pub mod Run
+pub mod Going

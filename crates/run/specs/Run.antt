@@ -14,7 +14,6 @@ use Rattle.order.specs.Queue as Queue
 use Rattle.ring.specs.declared.Ring.{Ring}
 use Rattle.ring.specs.Acceptance.{nextOf}
 use Rattle.ring.specs.Waiting.{ahead, waiting, carried}
-use Rattle.cursor.specs.declared.Defined.{Defined}
 use Rattle.command.specs.Offered.{commands}
 use Rattle.effect.specs.declared.Marks.{Marks}
 use Rattle.effect.specs.Effects.{Machine, done}
@@ -80,8 +79,8 @@ abbrev pub placeOf : View → Ring
 placeOf v = record { min = v .lo; max = v .hi; stop = v .at }
 
 -- What the code gives that ended at a view.
-abbrev pub ranTo : View → Answer → ℕ → ℕ → Defined → Ran
-ranTo v answer count fence defined = record { answer = answer; count = count; ring = placeOf v; marks = record { fence = fence; defined = defined } }
+abbrev pub ranTo : View → Answer → ℕ → Marks → Ran
+ranTo v answer count marks = record { answer = answer; count = count; ring = placeOf v; marks = marks }
 
 -- STOP has passed the words that turns dropped. "The run changes no other ring word, and none if it consumed nothing."
 unfoldable pub left : Ring → List ℕ → List ℕ → Queue.Ran Machine → Outcome

@@ -20,6 +20,10 @@ pub record InView (v : View) (m : ℕ) : Type 0 where
   pub held : v .n + v .lo ≤ v .hi
   pub fits : v .hi ≤ m
 
+-- The next eight words wait in a row.
+unfoldable pub near : View → Bool
+near v = leb 8 (v .n) && leb 8 (v .hi - v .at)
+
 -- A view behind its first k words.
 abbrev pub passedIn : View → ℕ → View
 passedIn v k = record { lo = v .lo; hi = v .hi; at = ahead (v .lo) (v .hi) (v .at) k; n = v .n - k }

@@ -3,7 +3,6 @@ use command::Action;
 use command::Kind;
 use command::Source;
 use command::Turn;
-use cursor::Defined;
 use cursor::Shape;
 use effect::Marks;
 use geometry::Rect;
@@ -20,8 +19,9 @@ ghost use Rattle.ring.specs.Waiting.{between, words, carried};
 ghost use Rattle.command.specs.declared.Command.the-variants.{DefineAlphaCursor, Escape};
 ghost use Rattle.command.specs.Words.{turnWords};
 ghost use Rattle.effect.specs.Effects.{screenAfter, cursorAfter};
-ghost use Rattle.run.specs.Turns.{InView, wordsIn, passedIn, viewOf, Ready, placed, nextGood};
-ghost use Rattle.run.specs.Heads.{headIn, headFrom, updateIn, fillIn, copyIn, shapeIn, fixedTurn, onHead, turnHead};
+ghost use Rattle.run.specs.Turns.{InView, wordsIn, near, passedIn, viewOf, Ready, placed, nextGood};
+ghost use Rattle.run.specs.Heads.{headIn, headFrom, rectFirst, rectSecond, rectThird, updateIn, fillIn, copyIn, shapeIn, fixedTurn, onHead, turnHead, Known, plainSize, plainAction, fenceAfter};
+ghost use Rattle.run.specs.Going.{PlainRun};
 ghost use Rattle.run.specs.Run.{ranTo, scene, machine, table, placeOf, outcome, runWords, fitting, lost, answerOf, runIn};
 
 // The words that wait in a ring from word lo to below word hi: n of them, from word at on.
@@ -80,6 +80,12 @@ struct Head {
     w7: u32,
 }
 
+// What is known of the next command: nothing yet, or its head.
+enum Next {
+    Unread,
+    Read(Head),
+}
+
 // Eight words in a row.
 fn fetch_near(ring: &[u32], at: usize) -> Head
     requires { ⌜ at + 8 ≤ length (now ring) ⌝ }
@@ -132,27 +138,50 @@ fn fetch(ring: &[u32], v: View) -> Head
 
 // ---- what a turn finds, by a command's kind and the words of its head
 
-fn update_in(h: Head) -> Action
-    ensures { λ r. ⌜ r ≡ updateIn h ⌝ }
+fn rect_first(h: Head) -> Rect
+    ensures { λ r. ⌜ r ≡ rectFirst h ⌝ }
 {
-    let area = Rect {
+    Rect {
         x: h.w1,
         y: h.w2,
         w: h.w3,
         h: h.w4,
-    };
+    }
+}
+
+fn rect_second(h: Head) -> Rect
+    ensures { λ r. ⌜ r ≡ rectSecond h ⌝ }
+{
+    Rect {
+        x: h.w2,
+        y: h.w3,
+        w: h.w4,
+        h: h.w5,
+    }
+}
+
+fn rect_third(h: Head) -> Rect
+    ensures { λ r. ⌜ r ≡ rectThird h ⌝ }
+{
+    Rect {
+        x: h.w3,
+        y: h.w4,
+        w: h.w5,
+        h: h.w6,
+    }
+}
+
+fn update_in(h: Head) -> Action
+    ensures { λ r. ⌜ r ≡ updateIn h ⌝ }
+{
+    let area = rect_first(h);
     Action::Update(area)
 }
 
 fn fill_in(h: Head, rop: u32) -> Action
     ensures { λ r. ⌜ r ≡ fillIn h rop ⌝ }
 {
-    let area = Rect {
-        x: h.w2,
-        y: h.w3,
-        w: h.w4,
-        h: h.w5,
-    };
+    let area = rect_second(h);
     Action::Fill(area, h.w1, rop)
 }
 
@@ -160,12 +189,7 @@ fn copy_in(h: Head, rop: u32) -> Action
     ensures { λ r. ⌜ r ≡ copyIn h rop ⌝ }
 {
     let from = Source { x: h.w1, y: h.w2 };
-    let area = Rect {
-        x: h.w3,
-        y: h.w4,
-        w: h.w5,
-        h: h.w6,
-    };
+    let area = rect_third(h);
     Action::Copy(from, area, rop)
 }
 
@@ -250,9 +274,22 @@ fn turn_in(kind: Kind, h: Head, n: u64, carries: u64) -> Turn
     }
 }
 
-// What a turn finds at the words of a view.
-fn turn_at(ring: &[u32], v: View) -> Turn
+// The head of the next command, fetched unless it was read already.
+fn head_of(ring: &[u32], v: View, next: Next) -> Head
     requires { ⌜ InView v (length (now ring)) ⌝ }
+    requires { ⌜ Known next (wordsIn (now ring) v) ⌝ }
+    ensures { λ r. ⌜ r ≡ headIn (wordsIn (now (ring .entry)) v) ⌝ }
+{
+    match next {
+        Next::Unread => fetch(ring, v),
+        Next::Read(h) => h,
+    }
+}
+
+// What a turn finds at the words of a view.
+fn turn_at(ring: &[u32], v: View, next: Next) -> Turn
+    requires { ⌜ InView v (length (now ring)) ⌝ }
+    requires { ⌜ Known next (wordsIn (now ring) v) ⌝ }
     ensures { λ r. ⌜ r ≡ turnWords (carried (v .lo) (v .hi)) (wordsIn (now (ring .entry)) v) ⌝ }
 {
     let n = v.n;
@@ -262,7 +299,7 @@ fn turn_at(ring: &[u32], v: View) -> Turn
     let lo = v.lo;
     let hi = v.hi;
     let carries = hi - lo - 1;
-    let h = fetch(ring, v);
+    let h = head_of(ring, v, next);
     turn_in(command::kind_of(h.number), h, n as u64, carries as u64)
 }
 
@@ -420,16 +457,150 @@ fn place_of(v: View) -> Ring
 
 // ---- the run
 
+// ---- plain commands, one after the other
+
+// The words of a plain command: an update, a fill or copy that names no raster operation, a fence. 0 for any other.
+fn plain_size(kind: Kind) -> usize
+    ensures { λ r. ⌜ r ≡ plainSize kind ⌝ }
+{
+    match kind {
+        Kind::Update => 5,
+        Kind::RectFill => 6,
+        Kind::RectCopy => 7,
+        Kind::RectRopFill => 0,
+        Kind::RectRopCopy => 0,
+        Kind::DefineAlphaCursor => 0,
+        Kind::UpdateVerbose => 6,
+        Kind::Fence => 2,
+        Kind::Escape => 0,
+        Kind::Foreign => 0,
+    }
+}
+
+// The screen's part of a plain command.
+fn draw(kind: Kind, h: Head, framebuffer: &[u32], screen: &mut [u32], width: u32, rows: u32)
+    ensures { λ _. ⌜ now (screen .exit) ≡ screenAfter width rows (now (framebuffer .entry)) (plainAction kind h) (now (screen .entry)) ⌝ }
+{
+    match kind {
+        Kind::Update => raster::update(framebuffer, screen, width, rows, rect_first(h)),
+        Kind::RectFill => raster::fill(screen, width, rows, rect_second(h), h.w1, 3),
+        Kind::RectCopy => raster::copy(screen, width, rows, h.w1, h.w2, rect_third(h), 3),
+        Kind::RectRopFill => {}
+        Kind::RectRopCopy => {}
+        Kind::DefineAlphaCursor => {}
+        Kind::UpdateVerbose => raster::update(framebuffer, screen, width, rows, rect_first(h)),
+        Kind::Fence => {}
+        Kind::Escape => {}
+        Kind::Foreign => {}
+    }
+}
+
+// The fence after a plain command.
+fn fence_after(kind: Kind, h: Head, fence: u32) -> u32
+    ensures { λ r. ⌜ r ≡ fenceAfter kind h fence ⌝ }
+{
+    match kind {
+        Kind::Update => fence,
+        Kind::RectFill => fence,
+        Kind::RectCopy => fence,
+        Kind::RectRopFill => fence,
+        Kind::RectRopCopy => fence,
+        Kind::DefineAlphaCursor => fence,
+        Kind::UpdateVerbose => fence,
+        Kind::Fence => h.w1,
+        Kind::Escape => fence,
+        Kind::Foreign => fence,
+    }
+}
+
+// Whether the next eight words wait in a row.
+fn is_near(v: View) -> bool
+    requires { ⌜ v .at < v .hi ⌝ }
+    ensures { λ r. ⌜ r ≡ near v ⌝ }
+{
+    let n = v.n;
+    let hi = v.hi;
+    let at = v.at;
+    if n < 8 {
+        return false;
+    }
+    8 <= hi - at
+}
+
+// Where plain commands ended: the view behind them, the last fence, their number, and what is known of the next command.
+struct Paused {
+    view: View,
+    fence: u32,
+    count: u32,
+    next: Next,
+}
+
+// Plain commands whose heads do not wrap, as many as follow one another. They need the fence and the screen alone, so that all else stays out of this loop.
+fn plain_turns(
+    view: View,
+    before: u32,
+    budget: u32,
+    ring: &mut [u32],
+    framebuffer: &[u32],
+    screen: &mut [u32],
+    width: u32,
+    rows: u32,
+) -> Paused
+    requires { ⌜ InView view (length (now ring)) ⌝ }
+    requires { ⌜ (4 ≤ view .lo) × (view .hi ≤ 524288) ⌝ }
+    ensures { λ r. ⌜ PlainRun (scene width rows (now (framebuffer .entry))) budget view (now (ring .entry)) before (now (screen .entry)) r (now (ring .exit)) (now (screen .exit)) ⌝ }
+{
+    let mut v = view;
+    let mut fence = before;
+    let mut count = 0;
+    while count < budget {
+        let near = is_near(v);
+        if !near {
+            return Paused {
+                view: v,
+                fence,
+                count,
+                next: Next::Unread,
+            };
+        }
+        let at = v.at;
+        let h = fetch_near(ring, at);
+        let kind = command::kind_of(h.number);
+        let size = plain_size(kind);
+        if size == 0 {
+            return Paused {
+                view: v,
+                fence,
+                count,
+                next: Next::Read(h),
+            };
+        }
+        draw(kind, h, framebuffer, screen, width, rows);
+        fence = fence_after(kind, h, fence);
+        v = pass(v, size);
+        ring[3] = (v.at * 4) as u32;
+        count += 1;
+    }
+    Paused {
+        view: v,
+        fence,
+        count,
+        next: Next::Unread,
+    }
+}
+
+// ---- the run
+
 // What a run gives that ended at a view.
-fn ran_to(v: View, answer: Answer, count: u32, fence: u32, defined: Defined) -> Ran
+fn ran_to(v: View, answer: Answer, count: u32, marks: Marks) -> Ran
     requires { ⌜ (v .lo ≤ v .hi) × (v .at ≤ v .hi) × (v .hi ≤ 524288) ⌝ }
-    ensures { λ r. ⌜ r ≡ ranTo v answer count fence defined ⌝ }
+    ensures { λ r. ⌜ r ≡ ranTo v answer count marks ⌝ }
 {
     Ran {
         answer,
         count,
         ring: place_of(v),
-        marks: Marks { fence, defined },
+        marks,
     }
 }
 
@@ -451,37 +622,40 @@ fn turns(
     ensures { λ r. ⌜ outcome r (now (ring .exit)) (now (screen .exit)) (now (cursor .exit)) ≡ runWords (turnOf (carried (view .lo) (view .hi)) (table (scene width rows (now (framebuffer .entry))))) (placeOf view) budget (now (ring .entry)) (wordsIn (now (ring .entry)) view) (machine before (now (screen .entry)) (now (cursor .entry))) ⌝ }
 {
     let mut v = view;
-    let mut fence = before.fence;
-    let mut defined = before.defined;
+    let mut marks = before;
+    let mut next = Next::Unread;
     let mut count = 0;
     while count < budget {
-        let turn = turn_at(ring, v);
+        let turn = turn_at(ring, v, next);
         match turn {
             Turn::Ends(end) => {
-                return ran_to(v, Answer::Ended(end), count, fence, defined);
+                return ran_to(v, Answer::Ended(end), count, marks);
             }
             Turn::Executes(action, size) => {
                 bring_cursor(action, ring, v, cursor);
                 effect::paint(action, framebuffer, screen, width, rows);
+                marks = effect::mark(marks, action);
                 v = pass(v, size as usize);
                 ring[3] = (v.at * 4) as u32;
                 count += 1;
-                match action {
-                    Action::Update(_) => {}
-                    Action::Fill(_, _, _) => {}
-                    Action::Copy(_, _, _) => {}
-                    Action::Define(shape) => {
-                        defined = Defined::Cursor(shape);
-                    }
-                    Action::Fence(number) => {
-                        fence = number;
-                    }
-                    Action::Nothing => {}
-                }
+                let p = plain_turns(
+                    v,
+                    marks.fence,
+                    budget - count,
+                    ring,
+                    framebuffer,
+                    screen,
+                    width,
+                    rows,
+                );
+                v = p.view;
+                marks.fence = p.fence;
+                next = p.next;
+                count += p.count;
             }
         }
     }
-    ran_to(v, Answer::Spent, count, fence, defined)
+    ran_to(v, Answer::Spent, count, marks)
 }
 
 // Whether the remembered ring lies in the ring memory and the cursor image is one.

@@ -18,4 +18,4 @@ turn-at-spec =
     (λ c κs. search needs)
     (λ c κs. search needs)
     (λ c κs. search needs)
-    (λ c. let a = c .before .before .before .before .before .args in turn-by-head (a .ring .now) (a .v) _ _ _ _ (c .before .before .before .if1 .left) (c .before .before .fetch .ensures) (c .before .kind-of .ensures) (c .turn-in .ensures)))
+    (λ c. let a = c .before .before .before .before .before .args in turn-by-head (a .ring .now) (a .v) _ _ _ _ (c .before .before .before .if1 .left) (c .before .before .head-of .ensures) (c .before .kind-of .ensures) (c .turn-in .ensures)))
