@@ -2,7 +2,7 @@
 """names.py: what the documents name in backticks is there, and their links lead somewhere.
 
 In docs/PROMISES.md and docs/ARCHITECTURE.md:
-  `crate::name`       a function, struct or enum of crates/CRATE/src
+  `crate::name`       a function, struct or enum of crates/CRATE/src, or one of another crate that it passes on by 'pub use'
   `crate/File.name`   a declaration of crates/CRATE/specs/File.antt or crates/CRATE/proofs/File.antt
   `any/path`          a file or folder of the repository (target/ is made by rt, and passed over), as crates/raster/proofs/fill
 Other words in backticks mean nothing here. In README.md and docs/*.md each link to a local file must lead to one.
@@ -29,7 +29,9 @@ def lines_of(document):
 def declared_in_source(crate):
     names = set()
     for source in (ROOT / "crates" / crate / "src").rglob("*.rt"):
-        names.update(re.findall(r"^\s*(?:pub )?(?:extern \"C\" )?(?:fn|struct|enum)\s+(\w+)", source.read_text(), re.M))
+        text = source.read_text()
+        names.update(re.findall(r"^\s*(?:pub )?(?:extern \"C\" )?(?:fn|struct|enum)\s+(\w+)", text, re.M))
+        names.update(re.findall(r"^pub use (?:\w+::)+(\w+);", text, re.M))
     return names
 
 
