@@ -2,7 +2,7 @@
 use Prim.Native.Nat.{ℕ, _+_, _-_, _%_, _^_}
 use mathlib.Core.Bool.{Bool}
 use lib.Dec.{ltb}
-use Rattle.adapter.specs.declared.Device.{Device}
+use Rattle.device.specs.declared.Device.{Device}
 
 -- "Fence: the last number executed."
 abbrev pub fenceOf : Device → ℕ

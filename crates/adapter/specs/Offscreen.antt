@@ -1,12 +1,12 @@
 -- The usable offscreen rectangle: document 01, "Registers".
 use Prim.Native.Nat.{ℕ, _+_, _-_, _/_}
 use mathlib.Core.Bool.{cond}
-use Rattle.adapter.specs.declared.Device.{Device}
+use Rattle.device.specs.declared.Device.{Device}
 use Rattle.adapter.specs.declared.Edges.{Edges}
 use Rattle.register.specs.declared.ReadOnly.{ReadOnly}
 use Rattle.register.specs.declared.ReadOnly.the-variants.{Depth, BytesPerLine, FbSize, VramSize}
-use Rattle.adapter.specs.Device.{widthOf, heightOf, made}
-use Rattle.adapter.specs.Registers.{readOnlyValue}
+use Rattle.device.specs.Device.{widthOf, heightOf, made}
+use Rattle.register_read.specs.Registers.{readOnlyValue}
 
 -- What a read-only register reads.
 abbrev pub reads : Device → ReadOnly → ℕ

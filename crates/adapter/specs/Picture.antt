@@ -9,9 +9,24 @@ use Rattle.picture.specs.declared.Over.the-variants.{Nothing, Cursor as Appears
 use Rattle.picture.specs.Picture.{composed}
 use Rattle.cursor.specs.declared.Defined.{Defined}
 use Rattle.cursor.specs.declared.Defined.the-variants.{Undefined, Cursor}
-use Rattle.adapter.specs.declared.Device.{Device}
-use Rattle.adapter.specs.Device.{pixelsOf, widthOf, heightOf, made}
-use Rattle.adapter.specs.Answers.{Pictured}
+use Rattle.device.specs.declared.Device.{Device}
+use Rattle.device.specs.Device.{pixelsOf, widthOf, heightOf, made}
+use Rattle.adapter.specs.declared.PictureAnswer.{PictureAnswer}
+use Rattle.adapter.specs.declared.PictureAnswer.the-variants.{Taken as Shown, WrongLength as NotLent, TooLarge}
+
+-- picture: 0 taken, 20 lent length, 24 width·height above P
+abbrev pub pictureNumber : PictureAnswer → ℕ
+pictureNumber Shown = 0
+pictureNumber NotLent = 20
+pictureNumber TooLarge = 24
+
+-- A picture answers a number and leaves an output.
+pub record Pictured : Type 0 where
+  pub answer : ℕ
+  pub output : List ℕ
+
+abbrev pub pictured : PictureAnswer → List ℕ → Pictured
+pictured a output = record { answer = pictureNumber a; output = output }
 
 -- "In a picture the cursor appears if shown and its remembered id is that of the defined cursor": at the remembered X and Y.
 unfoldable pub cursorOver : Device → Defined → Over

@@ -5,7 +5,7 @@ use Prim.Native.Nat.{ℕ}
 use native.Mathlib.Omega.{arith}
 use lib.ListN.{length, set}
 use borrow.Author.Tests.{eq-eqb}
-use Rattle.adapter.specs.declared.Device.{Device}
+use Rattle.device.specs.declared.Device.{Device}
 use Rattle.device_words.specs.Words.{wordsOf, putIn}
 
 -- A device put into 64 words leaves its own.

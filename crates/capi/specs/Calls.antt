@@ -5,12 +5,14 @@ use mathlib.Core.List.{List, [], _∷_}
 use mathlib.Core.Option.{Option, none, some}
 use lib.Dec.{eqb}
 use lib.ListN.{length}
-use Rattle.adapter.specs.declared.Device.{Device}
+use Rattle.device.specs.declared.Device.{Device}
 use Rattle.adapter.specs.declared.Edges.{Edges}
-use Rattle.adapter.specs.Answers.{Creation, Reading, Pictured, madeOf}
-use Rattle.adapter.specs.Registers.{bit, readOf, written}
-use Rattle.adapter.specs.Run.{RunOutcome, runOf}
-use Rattle.adapter.specs.Picture.{pictureOf}
+use Rattle.device.specs.Making.{Creation, madeOf}
+use Rattle.register_read.specs.Answers.{Reading}
+use Rattle.adapter.specs.Picture.{Pictured, pictureOf}
+use Rattle.register_read.specs.Registers.{bit, readOf}
+use Rattle.register_write.specs.Registers.{written}
+use Rattle.device_run.specs.Run.{RunOutcome, runOf}
 use Rattle.adapter.specs.Offscreen.{offscreenOf}
 use Rattle.adapter.specs.Fence.{fenceOf, fencePassed}
 use Rattle.device_words.specs.declared.Held.{Held}

@@ -7,7 +7,7 @@ use adapter::Value;
 use device_words::Held;
 ghost use mathlib.Core.Path.{_≡_};
 ghost use lib.ListN.{length};
-ghost use Rattle.adapter.specs.Registers.{bit, readOf};
+ghost use Rattle.register_read.specs.Registers.{bit, readOf};
 ghost use Rattle.adapter.specs.Fence.{fenceOf, fencePassed};
 ghost use Rattle.ring.specs.Append.{appendOf};
 ghost use Rattle.capi.specs.Calls.{packed, call, makeIn, writeIn, readIn, runCall, runIn, pictureIn, edgesCall, edgeWords, edgesHeld, offscreenIn, fenceIn, passedIn};

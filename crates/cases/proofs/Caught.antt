@@ -32,12 +32,11 @@ use Rattle.ring.specs.Acceptance.{nextOf}
 use Rattle.ring.specs.Waiting.{after, ahead, between, words, waiting}
 use Rattle.run.specs.Turns.{placed, nextGood}
 use Rattle.run.specs.Run.{Scene, turnIn, stamped, left, runWords, fitting, runIn}
-use Rattle.adapter.specs.declared.Condition.the-variants.{Running}
-use Rattle.adapter.specs.Device.{sizesGood, modeGood, ringGood, conditionGood, definedGood, made}
-use Rattle.adapter.specs.Run.{lentGood, conditionAfter, busyAfter, runBy, runOf}
-use Rattle.adapter.proofs.RunLaws.{run-by}
-use Rattle.adapter.specs.Answers.{Pictured}
-use Rattle.adapter.specs.Picture.{cursorOver, lengthsGood, pictureOf}
+use Rattle.device.specs.declared.Condition.the-variants.{Running}
+use Rattle.device.specs.Device.{sizesGood, modeGood, ringGood, conditionGood, definedGood, made}
+use Rattle.device_run.specs.Run.{lentGood, conditionAfter, busyAfter, runBy, runOf}
+use Rattle.device_run.proofs.RunLaws.{run-by}
+use Rattle.adapter.specs.Picture.{Pictured, cursorOver, lengthsGood, pictureOf}
 use Rattle.cases.specs.Cases.{smallest}
 use Rattle.cases.specs.Impostors.{fence, answering, fenceIn, Claimed, RefusesEverything, AlwaysDrained, TouchesNothing, WholeRingAtOnce, CountFromTheAir, RightIsNotCaught}
 use Rattle.cases.specs.Impostors.{NotRefused, OneFence, shows, BareScreen}

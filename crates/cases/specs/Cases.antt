@@ -1,5 +1,5 @@
 -- Document 01, "Numbers to hold against it": "Cases 1 to 10 are proved about the definitions as a single list with one claim".
--- The definitions are those that the contracts of `raster`, `pixel`, `command`, `run`, `cursor` and `adapter` cite.
+-- The definitions are those that the contracts of `raster`, `pixel`, `command`, `run`, `cursor`, `register_read` and `adapter` cite.
 use Prim.Native.Nat.{ℕ}
 use mathlib.Core.Path.{_≡_}
 use mathlib.Core.List.{List, [], _∷_, _++_, map}
@@ -19,7 +19,7 @@ use Rattle.ring.specs.Waiting.{carried}
 use Rattle.command.specs.Commands.{sizeOf}
 use Rattle.command.specs.Offered.{commandIn}
 use Rattle.run.specs.Run.{scene, machine, table}
-use Rattle.adapter.specs.Registers.{bit}
+use Rattle.register_read.specs.Registers.{bit}
 use Rattle.adapter.specs.Fence.{fencePassed}
 
 -- A case: numbers that the definitions give, and the paper's. A truth is 1 or 0.

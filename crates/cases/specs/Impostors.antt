@@ -16,11 +16,11 @@ use Rattle.order.specs.Claim.{Op, append, run, spent, standing, ended, Reply, a
 use Rattle.ring.specs.declared.Ring.{Ring}
 use Rattle.effect.specs.Effects.{Machine}
 use Rattle.run.specs.Run.{Scene, table}
-use Rattle.adapter.specs.declared.Condition.the-variants.{Idle, Running}
-use Rattle.adapter.specs.declared.Device.{Device}
-use Rattle.adapter.specs.Device.{pixelsOf, widthOf, heightOf, freshRegisters, made}
-use Rattle.adapter.specs.Registers.{setMode, setState}
-use Rattle.adapter.specs.Run.{lentGood, runOf}
+use Rattle.device.specs.declared.Condition.the-variants.{Idle, Running}
+use Rattle.device.specs.declared.Device.{Device}
+use Rattle.device.specs.Device.{pixelsOf, widthOf, heightOf, freshRegisters, made}
+use Rattle.register_write.specs.Registers.{setMode, setState}
+use Rattle.device_run.specs.Run.{lentGood, runOf}
 use Rattle.adapter.specs.Picture.{pictureOf}
 use Rattle.cases.specs.Cases.{smallest}
 

@@ -6,7 +6,7 @@ use mathlib.Core.List.{List}
 use Prim.Native.Nat.{ℕ, _-_, _≤_}
 use native.Mathlib.Omega.{arith}
 use lib.ListN.{length, take, drop, length-take}
-use Rattle.adapter.specs.declared.Device.{Device}
+use Rattle.device.specs.declared.Device.{Device}
 use Rattle.console_session.specs.declared.Session.{Session}
 use Rattle.console_session.specs.declared.Start.{Start}
 use Rattle.console_session.specs.declared.Start.the-variants.{Ready}

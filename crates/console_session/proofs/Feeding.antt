@@ -10,10 +10,10 @@ use lib.Dec.{eqb, leb}
 use lib.ListN.{length, getD, take}
 use lib.Seq.{take-suc}
 use borrow.Author.Tests.{eq-eqb, eqb-true, leb-true, leb-false, le-leb, lt-leb}
-use Rattle.adapter.specs.declared.Making.{Making}
-use Rattle.adapter.specs.declared.Making.the-variants.{Made, Refused}
-use Rattle.adapter.specs.Device.{fresh, sizesGood}
-use Rattle.adapter.specs.Answers.{Creation, creation, madeOf}
+use Rattle.device.specs.declared.Making.{Making}
+use Rattle.device.specs.declared.Making.the-variants.{Made, Refused}
+use Rattle.device.specs.Device.{fresh, sizesGood}
+use Rattle.device.specs.Making.{Creation, creation, madeOf}
 use Rattle.console_session.specs.declared.Session.{Session}
 use Rattle.console_session.specs.Session.{State, fed, fedAll, fits, Within}
 

@@ -9,7 +9,7 @@ use lib.Dec.{eqb, ltb, leb}
 use lib.ListN.{length, take, replicate, length-append}
 use lib.Seq.{length-take-le, take-all, take-append-le}
 use borrow.Author.Tests.{ltb-true, ltb-false, lt-ltb, le-ltb, le-leb}
-use Rattle.adapter.specs.Device.{fresh}
+use Rattle.device.specs.Device.{fresh}
 use Rattle.console_lines.specs.Input.{linesOf}
 use Rattle.console_lines.specs.Lines.{inFirst, requestOf}
 use Rattle.console_lines.proofs.Long.{first-bytes}

@@ -5,11 +5,12 @@ use mathlib.Core.List.{List}
 use lib.Dec.{eqb}
 use lib.ListN.{getD, set, replicate}
 use Rattle.ring.specs.Append.{Appended, appendOf}
-use Rattle.adapter.specs.declared.Device.{Device}
-use Rattle.adapter.specs.Device.{fresh}
-use Rattle.adapter.specs.Answers.{Outcome}
-use Rattle.adapter.specs.Registers.{readOf, written}
-use Rattle.adapter.specs.Run.{RunOutcome, runOf}
+use Rattle.device.specs.declared.Device.{Device}
+use Rattle.device.specs.Device.{fresh}
+use Rattle.register_write.specs.Answers.{Outcome}
+use Rattle.register_read.specs.Registers.{readOf}
+use Rattle.register_write.specs.Registers.{written}
+use Rattle.device_run.specs.Run.{RunOutcome, runOf}
 use Rattle.console_lines.specs.declared.Request.{Request}
 use Rattle.console_lines.specs.declared.Request.the-variants.{Write, Read, Append, Pixel, Run, Screen, Bad}
 use Rattle.console_answers.specs.declared.Answer.{Answer}

@@ -5,8 +5,8 @@ use mathlib.Core.Bool.{cond}
 use mathlib.Core.List.{List}
 use lib.Dec.{eqb}
 use Rattle.ring.specs.Append.{Appended}
-use Rattle.adapter.specs.declared.Device.{Device}
-use Rattle.adapter.specs.Answers.{Outcome}
+use Rattle.device.specs.declared.Device.{Device}
+use Rattle.register_write.specs.Answers.{Outcome}
 use Rattle.console_answers.specs.declared.Answer.{Answer}
 use Rattle.console_answers.specs.declared.Answer.the-variants.{Written, Full, Nothing}
 use Rattle.console_session.specs.declared.Performed.{Performed as Done}

@@ -7,7 +7,7 @@ use lib.Dec.{eqb, ltb, leb}
 use lib.ListN.{length, take}
 use Rattle.console_lines.specs.Lines.{requestOf}
 use Rattle.console_answers.specs.Text.{textOf}
-use Rattle.adapter.specs.declared.Device.{Device}
+use Rattle.device.specs.declared.Device.{Device}
 use Rattle.console_session.specs.declared.Session.{Session}
 use Rattle.console_session.specs.Console.{Console, Performed, consoleOf, performed, start}
 

@@ -3,7 +3,7 @@
 -- Call by call: the definition that the call's contract states an equation with, and for each refusal the if and only if. `A ↔ B` reads: A if and only
 -- if B. The rules, as Run20 for a run's answer 20, are in specs/Refusing.antt: each is document 01's, with those that are checked before it ruled out. `-0`
 -- is what is taken, `-nothing` that a refusal changes nothing, `-unmade` what a device value is answered that no call can have made
--- (`adapter/Device.made`). Index, value, budget, word and lent memories are any.
+-- (`device/Device.made`). Index, value, budget, word and lent memories are any.
 -- Assumes nothing.
 use mathlib.Core.Path.{_≡_, refl, sym, ap, _∙_}
 use mathlib.Core.Bool.{true, false, false≢true}
@@ -33,17 +33,22 @@ use Rattle.command.proofs.Laws.{turn-none}
 use Rattle.effect.specs.Effects.{Machine, done}
 use Rattle.run.specs.Turns.{nextGood}
 use Rattle.run.specs.Run.{scene, runIn}
-use Rattle.adapter.specs.declared.Condition.the-variants.{Faulted}
-use Rattle.adapter.specs.declared.Device.{Device}
-use Rattle.adapter.specs.Device.{pixelsOf, widthOf, heightOf, conditionOf, sizesGood, made}
-use Rattle.adapter.specs.Answers.{Creation, Outcome, Reading, Pictured, madeOf}
-use Rattle.adapter.specs.Registers.{readBy, readOf, written}
-use Rattle.adapter.specs.Run.{RunOutcome, machineOf, ran, refusedRun, runBy, runOf}
-use Rattle.adapter.specs.Picture.{pictureOf}
-use Rattle.adapter.proofs.Kept.{make-refused}
-use Rattle.adapter.proofs.Refusals as Refusals
-use Rattle.adapter.proofs.Refusals.{no-register, read-only, bad-value, wrong-length, ring-refused, is-taken}
-use Rattle.adapter.proofs.RunLaws.{run-by}
+use Rattle.device.specs.declared.Condition.the-variants.{Faulted}
+use Rattle.device.specs.declared.Device.{Device}
+use Rattle.device.specs.Device.{pixelsOf, widthOf, heightOf, conditionOf, sizesGood, made}
+use Rattle.device.specs.Making.{Creation, madeOf}
+use Rattle.register_write.specs.Answers.{Outcome}
+use Rattle.register_read.specs.Answers.{Reading}
+use Rattle.adapter.specs.Picture.{Pictured, pictureOf}
+use Rattle.register_read.specs.Registers.{readBy, readOf}
+use Rattle.register_write.specs.Registers.{written}
+use Rattle.device_run.specs.Run.{RunOutcome, machineOf, ran, refusedRun, runBy, runOf}
+use Rattle.device.proofs.Kept.{make-refused}
+use Rattle.register_write.proofs.Refusals as WriteRefusals
+use Rattle.register_read.proofs.Refusals as ReadRefusals
+use Rattle.adapter.proofs.Refusals as PictureRefusals
+use Rattle.register_write.proofs.Refusals.{no-register, read-only, bad-value, wrong-length, ring-refused, is-taken}
+use Rattle.device_run.proofs.RunLaws.{run-by}
 use Rattle.demands.specs.Refusing.{isRefusal, Sizes, Make34, Write30, Write31, Write32, Write20, Write33, Write0, Read30}
 use Rattle.demands.specs.Refusing.{Run20, Run22, Run21, Run24, Run23, Starts, NextUsable, lineOf, turnFor, PictureLent, Picture20, Picture24, Append1}
 use Rattle.demands.specs.Refusing.{Turn0, Turn10, HeadMissing, HeadBad, Turn12, WordsMissing, OperandBad, Executes}
@@ -60,7 +65,7 @@ not-zero e z = false≢true (ap isRefusal (sym z) ∙ e)
 -- ---- making a device
 
 module _ (memory pixels : ℕ) where
-  -- `adapter::make` equals `adapter/Answers.madeOf`: an answer and, if it is 0, a device
+  -- `adapter::make` equals `device/Making.madeOf`: an answer and, if it is 0, a device
   abbrev making : Creation
   making = madeOf memory pixels
 
@@ -83,31 +88,31 @@ module _ (memory pixels : ℕ) where
 -- ---- register write
 
 module _ (d : Device) (ring : List ℕ) (index v : ℕ) where
-  -- `adapter::write` equals `adapter/Registers.written`: an answer and the device that is left
+  -- `adapter::write` equals `register_write/Registers.written`: an answer and the device that is left
   abbrev write : Outcome
   write = written d ring index v
 
   -- "A register write checks 30, 31, 32."
   pub write-30 : made d ≡ true → (write .answer ≡ 30) ↔ Write30 index
-  write-30 m = (write-why d ring index v m 30, λ x. Refusals.only d ring index v m 30 (no-register x))
+  write-30 m = (write-why d ring index v m 30, λ x. WriteRefusals.only d ring index v m 30 (no-register x))
 
   pub write-31 : made d ≡ true → (write .answer ≡ 31) ↔ Write31 index
-  write-31 m = (write-why d ring index v m 31, λ x. Refusals.only d ring index v m 31 (read-only (x .0) (x .1)))
+  write-31 m = (write-why d ring index v m 31, λ x. WriteRefusals.only d ring index v m 31 (read-only (x .0) (x .1)))
 
   pub write-32 : made d ≡ true → (write .answer ≡ 32) ↔ Write32 index v
   write-32 m = (
     write-why d ring index v m 32,
-    λ x. Refusals.only d ring index v m 32 (bad-value (x .0) (x .1) (fails _ (ranged (x .0) v) .1 (x .2))),
+    λ x. WriteRefusals.only d ring index v m 32 (bad-value (x .0) (x .1) (fails _ (ranged (x .0) v) .1 (x .2))),
   )
 
   -- "CONFIG_DONE 1: first 32, then 20, then 33."
   pub write-20 : made d ≡ true → (write .answer ≡ 20) ↔ Write20 d ring index v
-  write-20 m = (write-why d ring index v m 20, λ x. Refusals.only d ring index v m 20 (wrong-length (x .0) (x .1) (x .2)))
+  write-20 m = (write-why d ring index v m 20, λ x. WriteRefusals.only d ring index v m 20 (wrong-length (x .0) (x .1) (x .2)))
 
   pub write-33 : made d ≡ true → (write .answer ≡ 33) ↔ Write33 d ring index v
   write-33 m = (
     write-why d ring index v m 33,
-    λ x. Refusals.only d ring index v m 33 (ring-refused (x .0) (x .1) (x .2) (not-usable ring .1 (x .3))),
+    λ x. WriteRefusals.only d ring index v m 33 (ring-refused (x .0) (x .1) (x .2) (not-usable ring .1 (x .3))),
   )
 
   -- else it is taken
@@ -115,27 +120,27 @@ module _ (d : Device) (ring : List ℕ) (index v : ℕ) where
   write-0 m = (
     write-why d ring index v m 0,
     λ x.
-        Refusals.only d ring index v m 0
+        WriteRefusals.only d ring index v m 0
         (is-taken (x .0) (x .1) (ranged (x .0) v .1 (x .2)) (λ c o. let y = x .3 c o in (y .0, ring-usable ring .1 (y .1)))),
   )
 
   -- "Answers 20 to 34 change nothing"
   pub write-nothing : isRefusal (write .answer) ≡ true → write .device ≡ d
-  write-nothing e = Refusals.refused-changes-nothing d ring index v (not-zero e)
+  write-nothing e = WriteRefusals.refused-changes-nothing d ring index v (not-zero e)
 
   -- a device that no call can have made has no registers
   pub write-unmade : made d ≡ false → write .answer ≡ 30
-  write-unmade f = rw (Refusals.unmade-write d ring index v f)
+  write-unmade f = rw (WriteRefusals.unmade-write d ring index v f)
 
 -- ---- register read
 
 module _ (d : Device) (index : ℕ) where
-  -- `adapter::read` equals `adapter/Registers.readOf`: an answer and a value
+  -- `adapter::read` equals `register_read/Registers.readOf`: an answer and a value
   abbrev read : Reading
   read = readOf d index
 
   pub read-30 : made d ≡ true → (read .answer ≡ 30) ↔ Read30 index
-  read-30 m = Refusals.read-30 d index m
+  read-30 m = ReadRefusals.read-30 d index m
 
   pub read-0 : made d ≡ true → (read .answer ≡ 0) ↔ (¬ Read30 index)
   unfolding readOf readBy
@@ -160,7 +165,7 @@ module _ (d : Device) (index : ℕ) where
 -- ---- run
 
 module _ (d : Device) (ring framebuffer screen cursor : List ℕ) (budget : ℕ) where
-  -- `adapter::run` equals `adapter/Run.runOf`: an answer, a count, and the device, ring memory, screen and cursor image that are left
+  -- `adapter::run` equals `device_run/Run.runOf`: an answer, a count, and the device, ring memory, screen and cursor image that are left
   abbrev run : RunOutcome
   run = runOf d ring framebuffer screen cursor budget
 
@@ -314,11 +319,11 @@ module _ (d : Device) (screen image output : List ℕ) where
 
   -- "a picture 20, 24"
   pub picture-20 : made d ≡ true → (picture .answer ≡ 20) ↔ Picture20 d screen image output
-  picture-20 m = Iff·trans (Refusals.picture-20 d screen image output m) (fails (Refusals.lent d screen image output) (picture-lent d screen image output))
+  picture-20 m = Iff·trans (PictureRefusals.picture-20 d screen image output m) (fails (PictureRefusals.lent d screen image output) (picture-lent d screen image output))
 
   pub picture-24 : made d ≡ true → (picture .answer ≡ 24) ↔ Picture24 d screen image output
   picture-24 m =
-      let r = Refusals.picture-24 d screen image output m in
+      let r = PictureRefusals.picture-24 d screen image output m in
       let l = picture-lent d screen image output in
       (λ e. let x = r .0 e in (l .0 (x .0), x .1), λ x. r .1 (l .1 (x .0), x .1))
 
@@ -326,7 +331,7 @@ module _ (d : Device) (screen image output : List ℕ) where
   unfolding pictureOf
   picture-0 m =
       let l = picture-lent d screen image output in
-      by-bool (Refusals.lent d screen image output)
+      by-bool (PictureRefusals.lent d screen image output)
       (λ t.
       by-bool (leb (widthOf d * heightOf d) (pixelsOf d))
       (λ f. rw (m, t, f) (λ e. (l .0 t, leb-true _ _ f), λ x. refl))
@@ -335,7 +340,7 @@ module _ (d : Device) (screen image output : List ℕ) where
 
   -- "Answers 20 to 34 change nothing"
   pub picture-nothing : isRefusal (picture .answer) ≡ true → picture .output ≡ output
-  picture-nothing e = Refusals.refused-picture d screen image output (not-zero e)
+  picture-nothing e = PictureRefusals.refused-picture d screen image output (not-zero e)
 
   -- a device that no call can have made has no mode that fits
   pub picture-unmade : made d ≡ false → picture .answer ≡ 24

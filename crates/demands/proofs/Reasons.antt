@@ -32,13 +32,13 @@ use Rattle.effect.specs.Effects.{Machine, done}
 use Rattle.run.specs.Turns.{viewOf, placed, nextGood}
 use Rattle.run.specs.Run.{Scene, table, turnIn, left, runWords, lost, fitting, runIn}
 use Rattle.run.proofs.RunLaws.{run-lost, run-good}
-use Rattle.adapter.specs.declared.Condition.the-variants.{Idle, Running, Faulted}
-use Rattle.adapter.specs.declared.Device.{Device}
-use Rattle.adapter.specs.Device.{memoryOf, pixelsOf, configuredOf, conditionOf, sizesGood, ringGood, conditionGood, made}
+use Rattle.device.specs.declared.Condition.the-variants.{Idle, Running, Faulted}
+use Rattle.device.specs.declared.Device.{Device}
+use Rattle.device.specs.Device.{memoryOf, pixelsOf, configuredOf, conditionOf, sizesGood, ringGood, conditionGood, made}
 use Rattle.adapter.specs.Picture.{lengthsGood}
-use Rattle.adapter.specs.Run.{lentGood, conditionAfter}
-use Rattle.adapter.proofs.Laws.{well-formed}
-use Rattle.adapter.proofs.Refusals.{inRange}
+use Rattle.device_run.specs.Run.{lentGood, conditionAfter}
+use Rattle.device.proofs.Laws.{well-formed}
+use Rattle.register_write.proofs.Refusals.{inRange}
 use Rattle.demands.specs.Refusing.{Sizes, Ranged, Lent, NextUsable, PictureLent}
 
 pub clash : _≡_ {A = ℕ} 0 1 → ⊥

@@ -24,14 +24,14 @@ use Rattle.command.specs.Words.{turnWords}
 use Rattle.command.specs.Offered.{commandIn, commands}
 use Rattle.command.proofs.Laws.{asTurn, turn-words, turn-first, turn-none}
 use Rattle.run.specs.Run.{scene, Outcome, fitting, runIn}
-use Rattle.adapter.specs.declared.Condition.{Condition}
-use Rattle.adapter.specs.declared.Condition.the-variants.{Idle, Running, Faulted}
-use Rattle.adapter.specs.declared.Device.{Device}
-use Rattle.adapter.specs.Device.{pixelsOf, widthOf, heightOf, enabledOf, configuredOf, conditionOf, made}
-use Rattle.adapter.specs.Registers.{written}
-use Rattle.adapter.specs.Run.{RunOutcome, lentGood, machineOf, ran, refusedRun, runBy, runOf}
-use Rattle.adapter.proofs.Refusals.{Why, no-register, read-only, bad-value, wrong-length, ring-refused, is-taken, why}
-use Rattle.adapter.proofs.RunLaws.{run-by}
+use Rattle.device.specs.declared.Condition.{Condition}
+use Rattle.device.specs.declared.Condition.the-variants.{Idle, Running, Faulted}
+use Rattle.device.specs.declared.Device.{Device}
+use Rattle.device.specs.Device.{pixelsOf, widthOf, heightOf, enabledOf, configuredOf, conditionOf, made}
+use Rattle.register_write.specs.Registers.{written}
+use Rattle.device_run.specs.Run.{RunOutcome, lentGood, machineOf, ran, refusedRun, runBy, runOf}
+use Rattle.register_write.proofs.Refusals.{Why, no-register, read-only, bad-value, wrong-length, ring-refused, is-taken, why}
+use Rattle.device_run.proofs.RunLaws.{run-by}
 use Rattle.demands.specs.Refusing.{isRefusal, Write30, Write31, Write32, Write20, Write33, Write0, Lent, Run20, Run22, Run21, Run24, Run23, Starts}
 use Rattle.demands.specs.Refusing.{kindIn, Turn0, Turn10, HeadMissing, HeadThere, HeadBad, Turn12, WordsMissing, WordsThere, OperandBad, Executes}
 use Rattle.demands.proofs.Reasons.{by-cond, not-both, fails, ring-usable, not-usable, lent-good, ranged}

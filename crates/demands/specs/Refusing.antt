@@ -25,10 +25,10 @@ use Rattle.command.specs.Commands.{kindOf, offered, headWords, sizeOf, headGood
 use Rattle.command.specs.Offered.{commandIn}
 use Rattle.effect.specs.Effects.{Machine}
 use Rattle.run.specs.Run.{scene, table}
-use Rattle.adapter.specs.declared.Condition.the-variants.{Running, Faulted}
-use Rattle.adapter.specs.declared.Device.{Device}
-use Rattle.adapter.specs.Device.{memoryOf, pixelsOf, widthOf, heightOf, enabledOf, configuredOf, conditionOf}
-use Rattle.adapter.specs.Run.{machineOf}
+use Rattle.device.specs.declared.Condition.the-variants.{Running, Faulted}
+use Rattle.device.specs.declared.Device.{Device}
+use Rattle.device.specs.Device.{memoryOf, pixelsOf, widthOf, heightOf, enabledOf, configuredOf, conditionOf}
+use Rattle.device_run.specs.Run.{machineOf}
 
 -- "Answers 20 to 34 change nothing"
 unfoldable pub isRefusal : ℕ → Bool

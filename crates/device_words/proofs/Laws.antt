@@ -9,8 +9,8 @@ use lib.Seq.{paste, paste-suc, take-all, drop-length}
 use borrow.Author.Tests.{eq-eqb, ne-eqb}
 use native.Mathlib.Omega.{arith}
 use native.Mathlib.Nat.{not-suc-le-zero, le-of-suc-le-suc}
-use Rattle.adapter.specs.declared.Device.{Device}
-use Rattle.adapter.specs.Device.{made}
+use Rattle.device.specs.declared.Device.{Device}
+use Rattle.device.specs.Device.{made}
 use Rattle.device_words.specs.declared.Held.the-variants.{Device as Holds, Nothing}
 use Rattle.device_words.specs.Words.{wordsOf, deviceFrom, same, heldIn}
 

@@ -11,11 +11,11 @@ use Rattle.geometry.proofs.Tests.{by-bool, both}
 use Rattle.cursor.specs.declared.Defined.{Defined}
 use Rattle.cursor.specs.declared.Defined.the-variants.{Undefined, Cursor}
 use Rattle.order.specs.declared.Cause.the-variants.{NotOffered, BadOperand, TooLong, BadNext}
-use Rattle.adapter.specs.declared.Condition.{Condition}
-use Rattle.adapter.specs.declared.Condition.the-variants.{Idle, Running, Faulted}
-use Rattle.adapter.specs.declared.Device.{Device}
-use Rattle.adapter.specs.Device.{made}
-use Rattle.adapter.specs.Registers.{bit}
+use Rattle.device.specs.declared.Condition.{Condition}
+use Rattle.device.specs.declared.Condition.the-variants.{Idle, Running, Faulted}
+use Rattle.device.specs.declared.Device.{Device}
+use Rattle.device.specs.Device.{made}
+use Rattle.register_read.specs.Registers.{bit}
 use Rattle.device_words.specs.declared.Held.{Held}
 use Rattle.device_words.specs.declared.Held.the-variants.{Device as Holds, Nothing}
 use Rattle.device_words.specs.Words.{definedParts, conditionParts, wordsOf, definedFrom, conditionFrom, deviceFrom, same, heldIn}

@@ -10,13 +10,13 @@ use Rattle.cursor.specs.declared.Defined.{Defined}
 use Rattle.cursor.specs.declared.Defined.the-variants.{Undefined, Cursor}
 use Rattle.order.specs.declared.Cause.the-variants.{NotOffered, BadOperand, TooLong, BadNext}
 use Rattle.order.specs.Straight.{causeNumber}
-use Rattle.adapter.specs.declared.Registers.{Registers}
-use Rattle.adapter.specs.declared.Plane.{Plane}
-use Rattle.adapter.specs.declared.Condition.{Condition}
-use Rattle.adapter.specs.declared.Condition.the-variants.{Idle, Running, Faulted}
-use Rattle.adapter.specs.declared.Device.{Device}
-use Rattle.adapter.specs.Device.{made}
-use Rattle.adapter.specs.Registers.{bit}
+use Rattle.device.specs.declared.Registers.{Registers}
+use Rattle.device.specs.declared.Plane.{Plane}
+use Rattle.device.specs.declared.Condition.{Condition}
+use Rattle.device.specs.declared.Condition.the-variants.{Idle, Running, Faulted}
+use Rattle.device.specs.declared.Device.{Device}
+use Rattle.device.specs.Device.{made}
+use Rattle.register_read.specs.Registers.{bit}
 use Rattle.device_words.specs.declared.DefinedWords.{DefinedWords}
 use Rattle.device_words.specs.declared.ConditionWords.{ConditionWords}
 use Rattle.device_words.specs.declared.Held.{Held}

@@ -12,7 +12,7 @@ ghost use mathlib.Core.Path.{_≡_};
 ghost use mathlib.Core.Bool.{cond};
 ghost use lib.Dec.{eqb};
 ghost use lib.ListN.{length, replicate};
-ghost use Rattle.adapter.specs.Registers.{bit};
+ghost use Rattle.register_read.specs.Registers.{bit};
 ghost use Rattle.device_words.specs.Words.{definedParts, conditionParts, settingWords, wordsOf, definedFrom, conditionFrom, deviceFrom, same, heldIn, putIn};
 
 // The device in lent words, or none.

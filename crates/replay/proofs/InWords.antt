@@ -2,10 +2,10 @@
 use mathlib.Core.Path.{_≡_}
 use mathlib.Core.List.{List}
 use Prim.Native.Nat.{ℕ}
-use Rattle.adapter.specs.declared.Device.{Device}
-use Rattle.adapter.specs.Registers.{written}
-use Rattle.adapter.specs.Run.{runOf}
-use Rattle.adapter.proofs.Kept.{written-made}
+use Rattle.device.specs.declared.Device.{Device}
+use Rattle.register_write.specs.Registers.{written}
+use Rattle.device_run.specs.Run.{runOf}
+use Rattle.register_write.proofs.Kept.{written-made}
 use Rattle.device_words.specs.declared.Held.the-variants.{Device as Holds}
 use Rattle.device_words.specs.Words.{wordsOf, heldIn}
 use Rattle.device_words.proofs.RoundTrip.{held-words, read-back}

@@ -44,13 +44,13 @@ use Rattle.run.specs.Turns.{Ready, nextGood}
 use Rattle.run.specs.Run.{Scene, scene, machine, table, turnIn, stamped, Outcome, left, runWords, fitting, runIn}
 use Rattle.run.proofs.Laws.{next-says}
 use Rattle.run.proofs.Found.{Found, on-to, found}
-use Rattle.adapter.specs.declared.Condition.{Condition}
-use Rattle.adapter.specs.declared.Condition.the-variants.{Idle, Running, Faulted}
-use Rattle.adapter.specs.declared.Device.{Device}
-use Rattle.adapter.specs.Device.{memoryOf, pixelsOf, widthOf, heightOf, ringGood, conditionGood, definedGood, made}
-use Rattle.adapter.specs.Run.{RunOutcome, lentGood, conditionAfter, settled, machineOf, ran, refusedRun, runBy, runOf}
-use Rattle.adapter.proofs.Laws.{well-formed}
-use Rattle.adapter.proofs.Kept.{made-of}
+use Rattle.device.specs.declared.Condition.{Condition}
+use Rattle.device.specs.declared.Condition.the-variants.{Idle, Running, Faulted}
+use Rattle.device.specs.declared.Device.{Device}
+use Rattle.device.specs.Device.{memoryOf, pixelsOf, widthOf, heightOf, ringGood, conditionGood, definedGood, made}
+use Rattle.device_run.specs.Run.{RunOutcome, lentGood, conditionAfter, settled, machineOf, ran, refusedRun, runBy, runOf}
+use Rattle.device.proofs.Laws.{well-formed}
+use Rattle.device.proofs.Kept.{made-of}
 
 -- ---- a run of a line, turn by turn
 

@@ -17,8 +17,8 @@ use Rattle.ring.specs.declared.Ring.{Ring}
 use Rattle.ring.specs.Waiting.{carried}
 use Rattle.command.proofs.Laws.{command-laws}
 use Rattle.effect.specs.Effects.{Machine}
-use Rattle.adapter.specs.declared.Condition.the-variants.{Running}
-use Rattle.adapter.specs.Device.{conditionOf}
+use Rattle.device.specs.declared.Condition.the-variants.{Running}
+use Rattle.device.specs.Device.{conditionOf}
 use Rattle.replay.specs.Calls.{World, Outcome, perform, History, performAll}
 use Rattle.replay.specs.Demand.{isStart, turnIn, machineIn, callOf, numbersOf, Demand, Shown}
 use Rattle.replay.specs.Replay.{opsOf, walk, walkOf, Replays}

@@ -23,17 +23,18 @@ use Rattle.register.specs.Numbers.{registerOf}
 use Rattle.picture.specs.declared.Over.{Over}
 use Rattle.picture.specs.Picture.{composed}
 use Rattle.picture.proofs.Laws.{length-composed, beyond-stays}
-use Rattle.adapter.specs.declared.Device.{Device}
-use Rattle.adapter.specs.Device.{pixelsOf, widthOf, heightOf, sizesGood, made}
-use Rattle.adapter.specs.Answers.{madeOf}
-use Rattle.adapter.specs.Answers as A
-use Rattle.adapter.specs.Registers.{readBy, readOf, written}
+use Rattle.device.specs.declared.Device.{Device}
+use Rattle.device.specs.Device.{pixelsOf, widthOf, heightOf, sizesGood, made}
+use Rattle.device.specs.Making.{madeOf}
+use Rattle.register_write.specs.Answers as A
+use Rattle.register_read.specs.Registers.{readBy, readOf}
+use Rattle.register_write.specs.Registers.{written}
 use Rattle.adapter.specs.Picture.{cursorOver, lengthsGood, pictureOf}
-use Rattle.adapter.specs.Run.{RunOutcome, machineOf, refusedRun, ran, runOf}
+use Rattle.device_run.specs.Run.{RunOutcome, machineOf, refusedRun, ran, runOf}
 use Rattle.run.specs.Run.{scene}
-use Rattle.adapter.proofs.Laws.{well-formed}
-use Rattle.adapter.proofs.Kept.{Left, same, changed, forgotten, remembered, left, sizes-kept}
-use Rattle.adapter.proofs.Refusals.{Why, no-register, read-only, bad-value, wrong-length, ring-refused, is-taken, why, unmade-write}
+use Rattle.device.proofs.Laws.{well-formed}
+use Rattle.register_write.proofs.Kept.{Left, same, changed, forgotten, remembered, left, sizes-kept}
+use Rattle.register_write.proofs.Refusals.{Why, no-register, read-only, bad-value, wrong-length, ring-refused, is-taken, why, unmade-write}
 use Rattle.replay.proofs.KeptByRun.{Told, Refusal, lent-length, disabled, not-configured, fault-stands, too-large, Open, ranIn, by-run, left-sound, left-stays, open-sound, refused-run, run-count, beyond-rows}
 use Rattle.replay.specs.Calls.{Memories, World, Call, make, write, read, run, append, picture, offscreen, fence, passed, lend, Outcome, perform, performAll}
 use Rattle.replay.specs.Harm.{row, among, SameBut, InMode, WriteChanges, RunChanges, AppendChanges, PictureChanges, OnlyNamed, Safe, Harmless}

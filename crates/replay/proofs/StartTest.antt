@@ -3,8 +3,8 @@
 use mathlib.Core.Path.{_≡_}
 use mathlib.Core.Bool.{Bool, true, false, _&&_, and-assoc}
 use lib.ListN.{length}
-use Rattle.adapter.specs.Device.{conditionOf}
-use Rattle.adapter.specs.Run.{ready}
+use Rattle.device.specs.Device.{conditionOf}
+use Rattle.device_run.specs.Run.{ready}
 use Rattle.replay.specs.Calls.{World}
 use Rattle.replay.specs.Demand.{ringAtStart, isStart}
 

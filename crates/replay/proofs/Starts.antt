@@ -20,20 +20,22 @@ use Rattle.register.specs.declared.Register.the-variants.{Writes, Reads, Absent
 use Rattle.register.specs.declared.Writable.{Writable}
 use Rattle.register.specs.declared.Writable.the-variants.{Id, Enable, Width, Height, ConfigDone, Sync, GuestId, CursorId, CursorX, CursorY, CursorOn}
 use Rattle.register.specs.Numbers.{Numbered, numbers, among, registerOf}
-use Rattle.adapter.specs.declared.Device.{Device}
-use Rattle.adapter.specs.declared.Registers.{Registers}
-use Rattle.adapter.specs.declared.Plane.{Plane}
-use Rattle.adapter.specs.declared.Condition.{Condition}
-use Rattle.adapter.specs.declared.Condition.the-variants.{Idle, Running, Faulted}
-use Rattle.adapter.specs.Device.{memoryOf, pixelsOf, widthOf, heightOf, enabledOf, configuredOf, conditionOf, definedOf, sizesGood, fresh, conditionGood, made, withRegisters, withPlane, withBusy, withCondition}
-use Rattle.adapter.specs.Answers.{madeOf}
-use Rattle.adapter.specs.Answers as A
-use Rattle.adapter.specs.Registers.{taken, isId, setMode, setState, idWritten, enableWritten, widthWritten, heightWritten, configured, acceptedWritten, configDoneWritten, running, synced, cursorOnWritten, writableWritten, writtenBy, written}
-use Rattle.adapter.specs.Run.{RunOutcome, lentGood}
-use Rattle.adapter.proofs.Laws.{well-formed}
-use Rattle.adapter.proofs.Kept.{fresh-made, written-made}
-use Rattle.adapter.proofs.Readings.{numberOf}
-use Rattle.adapter.proofs.Refusals.{refused-changes-nothing, refused-picture, unmade-write, wrong-length, ring-refused, only}
+use Rattle.device.specs.declared.Device.{Device}
+use Rattle.device.specs.declared.Registers.{Registers}
+use Rattle.device.specs.declared.Plane.{Plane}
+use Rattle.device.specs.declared.Condition.{Condition}
+use Rattle.device.specs.declared.Condition.the-variants.{Idle, Running, Faulted}
+use Rattle.device.specs.Device.{memoryOf, pixelsOf, widthOf, heightOf, enabledOf, configuredOf, conditionOf, definedOf, sizesGood, fresh, conditionGood, made, withRegisters, withPlane, withBusy, withCondition}
+use Rattle.device.specs.Making.{madeOf}
+use Rattle.register_write.specs.Answers as A
+use Rattle.register_write.specs.Registers.{taken, isId, setMode, setState, idWritten, enableWritten, widthWritten, heightWritten, configured, acceptedWritten, configDoneWritten, running, synced, cursorOnWritten, writableWritten, writtenBy, written}
+use Rattle.device_run.specs.Run.{RunOutcome, lentGood}
+use Rattle.device.proofs.Laws.{well-formed}
+use Rattle.device.proofs.Kept.{fresh-made}
+use Rattle.register_write.proofs.Kept.{written-made}
+use Rattle.register_read.proofs.Readings.{numberOf}
+use Rattle.register_write.proofs.Refusals.{refused-changes-nothing, unmade-write, wrong-length, ring-refused, only}
+use Rattle.adapter.proofs.Refusals.{refused-picture}
 use Rattle.replay.proofs.KeptByRun.{refused-run, run-made}
 use Rattle.replay.specs.Calls.{Memories, World, Call, make, write, read, run, append, picture, offscreen, fence, passed, lend, Outcome, withOutput, perform, History, performAll}
 use Rattle.replay.specs.Calls as Calls

@@ -31,12 +31,12 @@ use Rattle.effect.specs.Effects.{Machine}
 use Rattle.run.specs.Turns.{placed, nextGood}
 use Rattle.run.specs.Run as R
 use Rattle.run.specs.Run.{Scene, scene, table, stamped, left, runWords, fitting, runIn}
-use Rattle.adapter.specs.declared.Device.{Device}
-use Rattle.adapter.specs.declared.Condition.{Condition}
-use Rattle.adapter.specs.declared.Condition.the-variants.{Running, Faulted}
-use Rattle.adapter.specs.Device.{memoryOf, pixelsOf, widthOf, heightOf, enabledOf, configuredOf, conditionOf, sizesGood, modeGood, ringGood, conditionGood, made}
-use Rattle.adapter.specs.Run.{RunOutcome, lentGood, conditionAfter, ran, runBy, runOf}
-use Rattle.adapter.proofs.Laws.{well-formed}
+use Rattle.device.specs.declared.Device.{Device}
+use Rattle.device.specs.declared.Condition.{Condition}
+use Rattle.device.specs.declared.Condition.the-variants.{Running, Faulted}
+use Rattle.device.specs.Device.{memoryOf, pixelsOf, widthOf, heightOf, enabledOf, configuredOf, conditionOf, sizesGood, modeGood, ringGood, conditionGood, made}
+use Rattle.device_run.specs.Run.{RunOutcome, lentGood, conditionAfter, ran, runBy, runOf}
+use Rattle.device.proofs.Laws.{well-formed}
 use Rattle.replay.specs.Calls.{World, withRing, Outcome, append, run, perform}
 use Rattle.replay.specs.Demand.{ringAtStart, isStart, sceneOf, turnIn, wordsIn, machineIn, lineIn, standsIn, wordsOn, numbersOf}
 use Rattle.run.proofs.RunLaws.{turn-kept}

@@ -11,9 +11,9 @@ use lib.Seq.{drop-cons, drop-drop, take-suc-set, drop-set-lt}
 use borrow.Author.Tests.{eq-eqb, ne-eqb}
 use Rattle.ring.specs.declared.AppendAnswer.{AppendAnswer}
 use Rattle.ring.specs.Append.{appendNumber, appended, appendOf, Appended}
-use Rattle.adapter.specs.declared.Device.{Device}
-use Rattle.adapter.specs.declared.Ran.{Ran}
-use Rattle.adapter.specs.Run.{RunOutcome, runNumber, ranOf, runOf}
+use Rattle.device.specs.declared.Device.{Device}
+use Rattle.device_run.specs.declared.Ran.{Ran}
+use Rattle.device_run.specs.Run.{RunOutcome, runNumber, ranOf, runOf}
 use Rattle.replay.specs.Calls.{World, perform, performAll}
 use Rattle.replay.specs.Replay.{world, opOf, opsOf, answersIn, Walk, walk, walkOf, Pair, pairOf}
 

@@ -4,10 +4,11 @@ use mathlib.Core.Bool.{cond}
 use mathlib.Core.List.{List, [], _∷_}
 use mathlib.Core.Option.{Option, none, some}
 use Rattle.ring.specs.Append.{appendOf}
-use Rattle.adapter.specs.declared.Device.{Device}
-use Rattle.adapter.specs.Answers.{Creation, madeOf}
-use Rattle.adapter.specs.Registers.{readOf, written}
-use Rattle.adapter.specs.Run.{runOf}
+use Rattle.device.specs.declared.Device.{Device}
+use Rattle.device.specs.Making.{Creation, madeOf}
+use Rattle.register_read.specs.Registers.{readOf}
+use Rattle.register_write.specs.Registers.{written}
+use Rattle.device_run.specs.Run.{runOf}
 use Rattle.adapter.specs.Picture.{pictureOf}
 use Rattle.adapter.specs.Offscreen.{offscreenOf}
 use Rattle.adapter.specs.Fence.{fenceOf, fencePassed}

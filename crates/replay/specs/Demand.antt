@@ -16,10 +16,10 @@ use Rattle.ring.specs.Acceptance.{minOf, maxOf, nextOf, stopOf, usable}
 use Rattle.ring.specs.Waiting.{after, waiting, carried}
 use Rattle.effect.specs.Effects.{Machine}
 use Rattle.run.specs.Run.{Scene, scene, table}
-use Rattle.adapter.specs.declared.Condition.{Condition}
-use Rattle.adapter.specs.declared.Condition.the-variants.{Idle, Running, Faulted}
-use Rattle.adapter.specs.Device.{pixelsOf, widthOf, heightOf, enabledOf, configuredOf, conditionOf, made}
-use Rattle.adapter.specs.Run.{lentGood, machineOf}
+use Rattle.device.specs.declared.Condition.{Condition}
+use Rattle.device.specs.declared.Condition.the-variants.{Idle, Running, Faulted}
+use Rattle.device.specs.Device.{pixelsOf, widthOf, heightOf, enabledOf, configuredOf, conditionOf, made}
+use Rattle.device_run.specs.Run.{lentGood, machineOf}
 use Rattle.replay.specs.Calls.{World, Call, append, run, Outcome, History}
 
 -- "Its ring was last accepted with NEXT_CMD = STOP and since then nothing was written to it and no run made, refusals aside." Of that the state shows: no

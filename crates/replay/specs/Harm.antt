@@ -8,7 +8,7 @@ use mathlib.Core.Logic.{_⊎_}
 use lib.Dec.{eqb}
 use lib.ListN.{length, getD}
 use Rattle.ring.specs.Acceptance.{nextOf}
-use Rattle.adapter.specs.Device.{widthOf, heightOf}
+use Rattle.device.specs.Device.{widthOf, heightOf}
 use Rattle.replay.specs.Calls.{World, Call, make, write, read, run, append, picture, offscreen, fence, passed, lend, perform}
 
 -- ---- answers

@@ -7,9 +7,9 @@ use lib.Dec.{eqb}
 use Rattle.order.specs.Claim.{Op}
 use Rattle.order.specs.Claim as C
 use Rattle.ring.specs.declared.Ring.{Ring}
-use Rattle.adapter.specs.declared.Device.{Device}
-use Rattle.adapter.specs.declared.Condition.the-variants.{Running}
-use Rattle.adapter.specs.Device.{conditionOf}
+use Rattle.device.specs.declared.Device.{Device}
+use Rattle.device.specs.declared.Condition.the-variants.{Running}
+use Rattle.device.specs.Device.{conditionOf}
 use Rattle.replay.specs.declared.Performed.{Performed}
 use Rattle.replay.specs.declared.Replayed.{Replayed}
 use Rattle.replay.specs.declared.Replayed.the-variants.{Refused, Done}

@@ -3,7 +3,7 @@ use adapter::Condition;
 use adapter::Device;
 use ring::Ring;
 ghost use mathlib.Core.Path.{_≡_};
-ghost use Rattle.adapter.specs.declared.Condition.the-variants.{Running};
+ghost use Rattle.device.specs.declared.Condition.the-variants.{Running};
 ghost use Rattle.replay.specs.Demand.{ringAtStart, isStart};
 ghost use Rattle.replay.specs.Replay.{world, lending, performed, pairOf, walk, walkOf, Told};
 

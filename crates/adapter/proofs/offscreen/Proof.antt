@@ -4,9 +4,9 @@ use borrow.Author.Needs.{needs}
 use native.Mathlib.Omega.{arith}
 use mathlib.Core.Path.{sym, _∙_}
 use borrow.Author.Tests.{not-true, not-false}
-use Rattle.adapter.specs.Registers.{readOnlyValue}
+use Rattle.register_read.specs.Registers.{readOnlyValue}
 use Rattle.adapter.specs.Offscreen.{offscreenOf}
-use Rattle.adapter.proofs.Laws.{well-formed, fb-size-fits}
+use Rattle.device.proofs.Laws.{well-formed, fb-size-fits}
 use Rattle.adapter.proofs.offscreen.Statement.{statement}
 use Rattle.adapter.proofs.offscreen.Tie as tie
 

@@ -5,9 +5,8 @@ use mathlib.Core.Path.{sym, ap, _∙_}
 use native.Mathlib.Omega.{arith}
 use borrow.Author.Tests.{not-true, not-false, lt-leb, le-leb}
 use Rattle.adapter.specs.declared.PictureAnswer.the-variants.{Taken}
-use Rattle.adapter.specs.Answers.{pictured}
-use Rattle.adapter.specs.Picture.{pictureOf}
-use Rattle.adapter.proofs.Laws.{well-formed, mode-fits}
+use Rattle.adapter.specs.Picture.{pictured, pictureOf}
+use Rattle.device.proofs.Laws.{well-formed, mode-fits}
 use Rattle.adapter.proofs.picture.Statement.{statement}
 use Rattle.adapter.proofs.picture.Tie as tie
 

@@ -4,8 +4,8 @@ use mathlib.Core.Path.{_≡_, sym, _∙_}
 use Prim.Native.Nat.{ℕ}
 use native.Mathlib.Omega.{arith}
 use borrow.Author.Needs.{needs}
-use Rattle.adapter.specs.declared.Making.the-variants.{Made, Refused}
-use Rattle.adapter.specs.declared.Device.{Device}
+use Rattle.device.specs.declared.Making.the-variants.{Made, Refused}
+use Rattle.device.specs.declared.Device.{Device}
 use Rattle.console_session.proofs.Feeding.{console-made}
 use Rattle.console_session.proofs.begin.Statement.{statement}
 use Rattle.console_session.proofs.begin.Tie as tie

@@ -1,0 +1,58 @@
+-- What a well-formed device is, condition by condition.
+-- Assumes nothing.
+use mathlib.Core.Path.{_≡_}
+use mathlib.Core.Bool.{true}
+use Prim.Native.Nat.{_*_, _%_, _≤_}
+use native.Mathlib.Nat.{mul-le-mul}
+use native.Mathlib.Omega.{arith}
+use borrow.Author.Tests.{eqb-true, leb-true}
+use Rattle.geometry.proofs.Tests.{both}
+use Rattle.device.specs.declared.Device.{Device}
+use Rattle.device.specs.Device.{memoryOf, pixelsOf, widthOf, heightOf, sizesGood, modeGood, conditionGood, definedGood, made}
+
+pub record WellFormed (d : Device) : Type 0 where
+  pub memory-words : memoryOf d % 4 ≡ 0
+  pub memory-low : 10256 ≤ memoryOf d
+  pub memory-high : memoryOf d ≤ 2097152
+  pub pixels-low : 1 ≤ pixelsOf d
+  pub pixels-high : pixelsOf d ≤ 4096000
+  pub width-low : 1 ≤ widthOf d
+  pub width-high : widthOf d ≤ 2560
+  pub height-low : 1 ≤ heightOf d
+  pub height-high : heightOf d ≤ 1600
+  pub condition : conditionGood (memoryOf d) (d .registers .config) (d .condition) ≡ true
+  pub defined : definedGood (d .defined) ≡ true
+
+pub well-formed : (d : Device) → made d ≡ true → WellFormed d
+unfolding made sizesGood modeGood
+well-formed d e =
+    let sizes = both _ _ e in
+    let words = both _ _ (sizes .0) in
+    let low = both _ _ (words .1) in
+    let high = both _ _ (low .1) in
+    let pixels = both _ _ (high .1) in
+    let mode = both _ _ (sizes .1) in
+    let width = both _ _ (mode .0) in
+    let width-high = both _ _ (width .1) in
+    let height = both _ _ (width-high .1) in
+    let rest = both _ _ (mode .1) in
+    record {
+      memory-words = eqb-true _ _ (words .0);
+      memory-low = leb-true _ _ (low .0);
+      memory-high = leb-true _ _ (high .0);
+      pixels-low = leb-true _ _ (pixels .0);
+      pixels-high = leb-true _ _ (pixels .1);
+      width-low = leb-true _ _ (width .0);
+      width-high = leb-true _ _ (width-high .0);
+      height-low = leb-true _ _ (height .0);
+      height-high = leb-true _ _ (height .1);
+      condition = rest .0;
+      defined = rest .1;
+    }
+
+-- the mode's pixels and bytes fit 32 bits
+pub mode-fits : (d : Device) → WellFormed d → widthOf d * heightOf d ≤ 4096000
+mode-fits d w = mul-le-mul (w .width-high) (w .height-high)
+
+pub fb-size-fits : (d : Device) → WellFormed d → 4 * widthOf d * heightOf d ≤ 16384000
+fb-size-fits d w = mul-le-mul {n₂ = 10240} {m₂ = 1600} (omega arith) (w .height-high)

@@ -1,0 +1,163 @@
+-- The device: document 01, "What is lent". Fields are the code's; here are the fresh device, the test of a well-formed one, and the
+-- device with one part changed.
+use Prim.Native.Nat.{ℕ, _+_, _/_, _%_}
+use mathlib.Core.Bool.{Bool, true, false, cond, not, _&&_}
+use lib.Dec.{eqb, ltb, leb}
+use Rattle.ring.specs.declared.Ring.{Ring}
+use Rattle.cursor.specs.declared.Shape.{Shape}
+use Rattle.cursor.specs.Plane.{shapeGood}
+use Rattle.device.specs.declared.Registers.{Registers}
+use Rattle.device.specs.declared.Plane.{Plane}
+use Rattle.cursor.specs.declared.Defined.{Defined}
+use Rattle.cursor.specs.declared.Defined.the-variants.{Undefined, Cursor}
+use Rattle.device.specs.declared.Condition.{Condition}
+use Rattle.device.specs.declared.Condition.the-variants.{Idle, Running, Faulted}
+use Rattle.device.specs.declared.Device.{Device}
+
+-- ---- for other crates: what a device is made for, and its mode
+
+abbrev pub memoryOf : Device → ℕ
+memoryOf d = d .sizes .memory
+
+abbrev pub pixelsOf : Device → ℕ
+pixelsOf d = d .sizes .pixels
+
+abbrev pub widthOf : Device → ℕ
+widthOf d = d .registers .width
+
+abbrev pub heightOf : Device → ℕ
+heightOf d = d .registers .height
+
+abbrev pub enabledOf : Device → Bool
+enabledOf d = d .registers .enable
+
+abbrev pub configuredOf : Device → Bool
+configuredOf d = d .registers .config
+
+abbrev pub definedOf : Device → Defined
+definedOf d = d .defined
+
+abbrev pub conditionOf : Device → Condition
+conditionOf d = d .condition
+
+-- ---- making
+
+-- "M is a multiple of 4 from 10,256 to 2,097,152; P is 1 to 4,096,000"
+unfoldable pub sizesGood : ℕ → ℕ → Bool
+sizesGood memory pixels = eqb (memory % 4) 0 && (leb 10256 memory && (leb memory 2097152 && (leb 1 pixels && leb pixels 4096000)))
+
+-- "Fresh: id 0x90000000, mode 640 by 480, disabled, not configured, no fault, not busy, fence 0, other written registers 0,
+-- cursor undefined and hidden."
+abbrev pub freshRegisters : Registers
+freshRegisters = record {
+  id = 0x90000000;
+  enable = false;
+  width = 640;
+  height = 480;
+  config = false;
+  guest = 0;
+  cursorid = 0;
+  cursorx = 0;
+  cursory = 0;
+  cursoron = 0;
+}
+
+abbrev pub fresh : ℕ → ℕ → Device
+fresh memory pixels = record {
+  sizes = record { memory = memory; pixels = pixels };
+  registers = freshRegisters;
+  plane = record { shown = false; id = 0; x = 0; y = 0 };
+  defined = Undefined;
+  fence = 0;
+  busy = false;
+  condition = Idle;
+}
+
+-- ---- well-formed devices: a test that `make` meets and every call keeps
+
+-- "2 WIDTH (1 to 2,560), 3 HEIGHT (1 to 1,600)"
+unfoldable pub modeGood : ℕ → ℕ → Bool
+modeGood width height = leb 1 width && (leb width 2560 && (leb 1 height && leb height 1600))
+
+-- The remembered ring lies in the ring memory as acceptance asks; all in words.
+unfoldable pub ringGood : ℕ → Ring → Bool
+ringGood memory g =
+    leb 4 (g .min) && (leb (g .max) (memory / 4) && (leb (g .min + 2560) (g .max) && (leb (g .min) (g .stop) && ltb (g .stop) (g .max))))
+
+-- A device with CONFIG_DONE 1 has a ring, or a fault that stands; with CONFIG_DONE 0 it has no ring.
+unfoldable pub conditionGood : ℕ → Bool → Condition → Bool
+conditionGood memory config Idle = not config
+conditionGood memory config (Running g) = cond config (ringGood memory g) false
+conditionGood memory config (Faulted c) = true
+
+-- The defined cursor is one that a command may define.
+unfoldable pub definedGood : Defined → Bool
+unfolding shapeGood
+definedGood Undefined = true
+definedGood (Cursor s) = shapeGood s
+
+unfoldable pub made : Device → Bool
+made d =
+    sizesGood (memoryOf d) (pixelsOf d)
+    && (modeGood (widthOf d) (heightOf d) && (conditionGood (memoryOf d) (d .registers .config) (d .condition) && definedGood (d .defined)))
+
+-- ---- a device with one part changed
+
+abbrev pub withRegisters : Device → Registers → Device
+withRegisters d g = record {
+  sizes = d .sizes;
+  registers = g;
+  plane = d .plane;
+  defined = d .defined;
+  fence = d .fence;
+  busy = d .busy;
+  condition = d .condition;
+}
+
+abbrev pub withPlane : Device → Plane → Device
+withPlane d p = record {
+  sizes = d .sizes;
+  registers = d .registers;
+  plane = p;
+  defined = d .defined;
+  fence = d .fence;
+  busy = d .busy;
+  condition = d .condition;
+}
+
+abbrev pub withBusy : Device → Bool → Device
+withBusy d b = record {
+  sizes = d .sizes;
+  registers = d .registers;
+  plane = d .plane;
+  defined = d .defined;
+  fence = d .fence;
+  busy = b;
+  condition = d .condition;
+}
+
+abbrev pub withCondition : Device → Condition → Device
+withCondition d c = record {
+  sizes = d .sizes;
+  registers = d .registers;
+  plane = d .plane;
+  defined = d .defined;
+  fence = d .fence;
+  busy = d .busy;
+  condition = c;
+}
+
+abbrev pub withDefined : Device → Defined → Device
+withDefined d c = record {
+  sizes = d .sizes;
+  registers = d .registers;
+  plane = d .plane;
+  defined = c;
+  fence = d .fence;
+  busy = d .busy;
+  condition = d .condition;
+}
+
+-- The defined cursor's record. A shape that no command can define is not taken.
+unfoldable pub cursorDefined : Device → Shape → Device
+cursorDefined d s = cond (shapeGood s) (withDefined d (Cursor s)) d

@@ -1,0 +1,230 @@
+// The device: its parts, the test of a well-formed one, making, the defined cursor.
+use cursor::Defined;
+use cursor::Shape;
+use order::Cause;
+use ring::Ring;
+ghost use mathlib.Core.Path.{_≡_};
+ghost use Rattle.device.specs.Device.{sizesGood, modeGood, ringGood, conditionGood, definedGood, made, conditionOf, cursorDefined};
+ghost use Rattle.device.specs.Making.{creation, madeOf};
+
+// M, the bytes of the ring memory, and P, the pixels of framebuffer and screen.
+pub struct Sizes {
+    pub memory: u32,
+    pub pixels: u32,
+}
+
+// The writable registers' values last taken. The mode is width by height.
+pub struct Registers {
+    pub id: u32,
+    pub enable: bool,
+    pub width: u32,
+    pub height: u32,
+    pub config: bool,
+    pub guest: u32,
+    pub cursorid: u32,
+    pub cursorx: u32,
+    pub cursory: u32,
+    pub cursoron: u32,
+}
+
+// The cursor plane: whether it is shown, and what CURSOR_ON 1 remembered.
+pub struct Plane {
+    pub shown: bool,
+    pub id: u32,
+    pub x: u32,
+    pub y: u32,
+}
+
+pub enum Condition {
+    Idle,
+    Running(Ring),
+    Faulted(Cause),
+}
+
+pub struct Device {
+    pub sizes: Sizes,
+    pub registers: Registers,
+    pub plane: Plane,
+    pub defined: Defined,
+    pub fence: u32,
+    pub busy: bool,
+    pub condition: Condition,
+}
+
+pub enum Making {
+    Made(Device),
+    Refused,
+}
+
+// ---- well-formed devices
+
+fn sizes_good(memory: u32, pixels: u32) -> bool
+    ensures { λ r. ⌜ r ≡ sizesGood memory pixels ⌝ }
+{
+    if memory % 4 != 0 {
+        return false;
+    }
+    if memory < 10256 {
+        return false;
+    }
+    if 2097152 < memory {
+        return false;
+    }
+    if pixels < 1 {
+        return false;
+    }
+    pixels <= 4096000
+}
+
+fn mode_good(width: u32, height: u32) -> bool
+    ensures { λ r. ⌜ r ≡ modeGood width height ⌝ }
+{
+    if width < 1 {
+        return false;
+    }
+    if 2560 < width {
+        return false;
+    }
+    if height < 1 {
+        return false;
+    }
+    height <= 1600
+}
+
+fn ring_good(memory: u32, ring: Ring) -> bool
+    ensures { λ r. ⌜ r ≡ ringGood memory ring ⌝ }
+{
+    if ring.min < 4 {
+        return false;
+    }
+    if memory / 4 < ring.max {
+        return false;
+    }
+    if (ring.max as u64) < ring.min as u64 + 2560 {
+        return false;
+    }
+    if ring.stop < ring.min {
+        return false;
+    }
+    ring.stop < ring.max
+}
+
+fn condition_good(memory: u32, config: bool, condition: Condition) -> bool
+    ensures { λ r. ⌜ r ≡ conditionGood memory config condition ⌝ }
+{
+    match condition {
+        Condition::Idle => {
+            return !config;
+        }
+        Condition::Running(ring) => {
+            if config {
+                return ring_good(memory, ring);
+            }
+            return false;
+        }
+        Condition::Faulted(_) => {
+            return true;
+        }
+    }
+}
+
+fn defined_good(defined: Defined) -> bool
+    ensures { λ r. ⌜ r ≡ definedGood defined ⌝ }
+{
+    match defined {
+        Defined::Undefined => {
+            return true;
+        }
+        Defined::Cursor(shape) => {
+            return cursor::shape_good(shape);
+        }
+    }
+}
+
+// Whether a device has what every call keeps: sizes, mode, ring, condition and cursor in their ranges and agreeing.
+// Rules out: a device with CONFIG_DONE 1 and no ring; a mode of 2,561 pixels to a row.
+pub fn is_made(d: Device) -> bool
+    ensures { λ r. ⌜ r ≡ made d ⌝ }
+{
+    let sizes = d.sizes;
+    let good_sizes = sizes_good(sizes.memory, sizes.pixels);
+    if !good_sizes {
+        return false;
+    }
+    let g = d.registers;
+    let good_mode = mode_good(g.width, g.height);
+    if !good_mode {
+        return false;
+    }
+    let condition = d.condition;
+    let good_condition = condition_good(sizes.memory, g.config, condition);
+    if !good_condition {
+        return false;
+    }
+    let defined = d.defined;
+    defined_good(defined)
+}
+
+// ---- making, defining, asking
+
+// A fresh device for a ring memory of memory bytes and pixels pixels.
+// Rules out: a device for a memory of 10,252 bytes; a fresh device that is enabled.
+pub fn make(memory: u32, pixels: u32) -> Making
+    ensures { λ r. ⌜ creation r ≡ madeOf memory pixels ⌝ }
+{
+    let good = sizes_good(memory, pixels);
+    if !good {
+        return Making::Refused;
+    }
+    let registers = Registers {
+        id: 0x90000000,
+        enable: false,
+        width: 640,
+        height: 480,
+        config: false,
+        guest: 0,
+        cursorid: 0,
+        cursorx: 0,
+        cursory: 0,
+        cursoron: 0,
+    };
+    let plane = Plane {
+        shown: false,
+        id: 0,
+        x: 0,
+        y: 0,
+    };
+    Making::Made(Device {
+        sizes: Sizes { memory, pixels },
+        registers,
+        plane,
+        defined: Defined::Undefined,
+        fence: 0,
+        busy: false,
+        condition: Condition::Idle,
+    })
+}
+
+// The device with a cursor defined: its id, hotspot and size. The cursor's pixels are in the cursor image that calls lend.
+// For the run, which calls it after its own check, and for tests; no call of document 01.
+// Rules out: a cursor of 65 by 1 defined; a definition that shows a hidden cursor, or moves one.
+pub fn define_cursor(d: Device, shape: Shape) -> Device
+    ensures { λ r. ⌜ r ≡ cursorDefined d shape ⌝ }
+{
+    let good = cursor::shape_good(shape);
+    if !good {
+        return d;
+    }
+    Device {
+        defined: Defined::Cursor(shape),
+        ..d
+    }
+}
+
+// The condition: idle, running with the remembered ring, or the fault that stands.
+// Rules out: a fault that is told as idle; a ring that is not the remembered one.
+pub fn condition_of(d: Device) -> Condition
+    ensures { λ r. ⌜ r ≡ conditionOf d ⌝ }
+{
+    d.condition
+}

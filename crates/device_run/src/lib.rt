@@ -1,0 +1,233 @@
+// A run of a device: its refusals, and what it leaves.
+use device::Condition;
+use device::Device;
+use device::is_made;
+use effect::Marks;
+use order::End;
+use ring::Ring;
+use run::Answer;
+ghost use mathlib.Core.List.{List};
+ghost use Prim.Native.Nat.{ℕ};
+ghost use Rattle.order.specs.Claim.{ended, answerNumber};
+ghost use Rattle.run.specs.Run.{answerOf, outcome as after};
+ghost use Rattle.device.specs.declared.Condition.the-variants.{Running};
+ghost use mathlib.Core.Path.{_≡_};
+ghost use Rattle.device_run.specs.Run.{runNumber, ranOf, lentGood, ready, conditionAfter, busyAfter, ran, runBy, runOf};
+
+pub enum RunAnswer {
+    Spent,
+    Ended(End),
+    WrongLength,
+    Disabled,
+    NotConfigured,
+    FaultStands,
+    TooLarge,
+}
+
+// How a run ended, the commands that it consumed, and the device then.
+pub struct Ran {
+    pub answer: RunAnswer,
+    pub count: u32,
+    pub device: Device,
+}
+
+// ---- answer numbers
+
+// Rules out: 1 for a spent budget; 23 for a fault that this run met.
+pub fn run_number(answer: RunAnswer) -> u32
+    ensures { λ r. ⌜ r ≡ runNumber answer ⌝ }
+{
+    match answer {
+        RunAnswer::Spent => 2,
+        RunAnswer::Ended(end) => order::end_number(end),
+        RunAnswer::WrongLength => 20,
+        RunAnswer::Disabled => 21,
+        RunAnswer::NotConfigured => 22,
+        RunAnswer::FaultStands => 23,
+        RunAnswer::TooLarge => 24,
+    }
+}
+
+// ---- run
+
+// A refused run: nothing is done.
+fn refused(d: Device, answer: RunAnswer) -> Ran
+    ensures { λ r. ⌜ r ≡ record { answer = answer; count = 0; device = d } ⌝ }
+{
+    Ran {
+        answer,
+        count: 0,
+        device: d,
+    }
+}
+
+fn lent_good(d: Device, ring: usize, framebuffer: usize, screen: usize, cursor: usize) -> bool
+    ensures { λ r. ⌜ r ≡ lentGood d ring framebuffer screen cursor ⌝ }
+{
+    let sizes = d.sizes;
+    let pixels = sizes.pixels as usize;
+    if ring != (sizes.memory / 4) as usize {
+        return false;
+    }
+    if framebuffer != pixels {
+        return false;
+    }
+    if screen != pixels {
+        return false;
+    }
+    cursor == 4096
+}
+
+fn condition_at(end: End, ring: Ring) -> Condition
+    ensures { λ r. ⌜ r ≡ conditionAfter (ended end) ring ⌝ }
+{
+    match end {
+        End::Drained => Condition::Running(ring),
+        End::Waiting => Condition::Running(ring),
+        End::Fault(cause) => Condition::Faulted(cause),
+    }
+}
+
+// A fault stands, or the ring is remembered with STOP as the run left it.
+fn condition_after(answer: Answer, ring: Ring) -> Condition
+    ensures { λ r. ⌜ r ≡ conditionAfter (answerOf answer) ring ⌝ }
+{
+    match answer {
+        Answer::Spent => Condition::Running(ring),
+        Answer::Ended(end) => condition_at(end, ring),
+    }
+}
+
+fn busy_after(answer: Answer, busy: bool) -> bool
+    ensures { λ r. ⌜ r ≡ busyAfter (answerOf answer) busy ⌝ }
+{
+    match answer {
+        Answer::Spent => busy,
+        Answer::Ended(_) => false,
+    }
+}
+
+fn answer_of(answer: Answer) -> RunAnswer
+    ensures { λ r. ⌜ runNumber r ≡ answerNumber (answerOf answer) ⌝ }
+{
+    match answer {
+        Answer::Spent => RunAnswer::Spent,
+        Answer::Ended(end) => RunAnswer::Ended(end),
+    }
+}
+
+// The device after a run.
+fn settle(d: Device, result: run::Ran) -> Ran
+    ensures { λ r. ⌜ ((ring screen cursor : List ℕ) → ranOf r ring screen cursor ≡ ran d (after result ring screen cursor)) ⌝ }
+{
+    let answer = result.answer;
+    let marks = result.marks;
+    let defined = marks.defined;
+    let condition = condition_after(answer, result.ring);
+    let busy = busy_after(answer, d.busy);
+    Ran {
+        answer: answer_of(answer),
+        count: result.count,
+        device: Device {
+            defined,
+            fence: marks.fence,
+            busy,
+            condition,
+            ..d
+        },
+    }
+}
+
+// A run of a device that has a ring and is not refused.
+fn run_ring(
+    d: Device,
+    at: Ring,
+    ring: &mut [u32],
+    framebuffer: &[u32],
+    screen: &mut [u32],
+    cursor: &mut [u32],
+    budget: u32,
+) -> Ran
+    ensures { λ r. ⌜ ranOf r (now (ring .exit)) (now (screen .exit)) (now (cursor .exit)) ≡ runBy d (now (ring .entry)) (now (framebuffer .entry)) (now (screen .entry)) (now (cursor .entry)) budget (Running at) ⌝ }
+{
+    let g = d.registers;
+    let defined = d.defined;
+    let marks = Marks {
+        fence: d.fence,
+        defined,
+    };
+    let result = run::run(
+        at,
+        marks,
+        budget,
+        ring,
+        framebuffer,
+        screen,
+        cursor,
+        g.width,
+        g.height,
+    );
+    settle(d, result)
+}
+
+// Commands out of the ring, at most budget of them.
+// Rules out: a run that refuses everything; "drained, 0" to everything; 21 before 22; a fault that clears nothing of BUSY.
+pub fn run(
+    d: Device,
+    ring: &mut [u32],
+    framebuffer: &[u32],
+    screen: &mut [u32],
+    cursor: &mut [u32],
+    budget: u32,
+) -> Ran
+    ensures { λ r. ⌜ ranOf r (now (ring .exit)) (now (screen .exit)) (now (cursor .exit)) ≡ runOf d (now (ring .entry)) (now (framebuffer .entry)) (now (screen .entry)) (now (cursor .entry)) budget ⌝ }
+{
+    let good = is_made(d);
+    if !good {
+        return refused(d, RunAnswer::NotConfigured);
+    }
+    let lent = lent_good(d, ring.len(), framebuffer.len(), screen.len(), cursor.len());
+    if !lent {
+        return refused(d, RunAnswer::WrongLength);
+    }
+    let g = d.registers;
+    if !g.config {
+        return refused(d, RunAnswer::NotConfigured);
+    }
+    if !g.enable {
+        return refused(d, RunAnswer::Disabled);
+    }
+    let sizes = d.sizes;
+    if (sizes.pixels as usize) < g.width as usize * g.height as usize {
+        return refused(d, RunAnswer::TooLarge);
+    }
+    let condition = d.condition;
+    match condition {
+        Condition::Idle => refused(d, RunAnswer::NotConfigured),
+        Condition::Running(at) => run_ring(d, at, ring, framebuffer, screen, cursor, budget),
+        Condition::Faulted(_) => refused(d, RunAnswer::FaultStands),
+    }
+}
+
+// Whether a run with these lent lengths is refused with neither 20, 21, 22 nor 24.
+// Rules out: a disabled device that is ready; a device whose mode is larger than the screen.
+pub fn is_ready(d: Device, ring: usize, framebuffer: usize, screen: usize, cursor: usize) -> bool
+    ensures { λ r. ⌜ r ≡ ready d ring framebuffer screen cursor ⌝ }
+{
+    let good = is_made(d);
+    if !good {
+        return false;
+    }
+    let lent = lent_good(d, ring, framebuffer, screen, cursor);
+    if !lent {
+        return false;
+    }
+    let g = d.registers;
+    if g.config {
+        if g.enable {
+            let sizes = d.sizes;
+            return g.width * g.height <= sizes.pixels;
+        }
+    }
+    false
+}

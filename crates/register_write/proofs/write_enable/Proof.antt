@@ -1,0 +1,15 @@
+-- `register_write::write_enable` meets its contract.
+-- Assumes nothing.
+use borrow.Author.Tests.{eq-eqb, ne-eqb}
+use Rattle.register_write.specs.Registers.{enableWritten}
+use Rattle.register_write.proofs.write_enable.Statement.{statement}
+use Rattle.register_write.proofs.write_enable.Tie as tie
+
+pub write-enable-spec : {M : Type 1} → statement M
+unfolding enableWritten
+write-enable-spec =
+    tie.close
+    (tie.spec
+    (λ c. rw (eq-eqb _ _ (c .before .before .if1 .taken)))
+    (λ c. rw (ne-eqb _ _ (c .before .before .before .if1 .left), eq-eqb _ _ (c .before .before .if2 .taken)))
+    (λ c. rw (ne-eqb _ _ (c .before .if1 .left), ne-eqb _ _ (c .if2 .left))))
