@@ -153,13 +153,22 @@ static void fill(struct peer *p, const uint32_t *a, uint32_t rop) {
         for (size_t i = 0; i < r.w; i++) d[i] = rop_pixel(rop, colour, d[i]);
 }
 
+// Whether a rectangle and one of b's size elsewhere have no pixel in common.
+static bool apart(struct rect a, struct rect b) {
+    return a.x + b.w <= b.x || b.x + b.w <= a.x || a.y + b.h <= b.y || b.y + b.h <= a.y;
+}
+
+// The quickest way for each width: pixman where rows are short and do not overlap, else memmove for each row.
 static void copy(struct peer *p, const uint32_t *a, uint32_t rop) {
     uint32_t from[4] = {a[0], a[1], a[4], a[5]}, to[4] = {a[2], a[3], a[4], a[5]};
     struct rect source = cut(from, p->width, p->height), r = cut(to, p->width, p->height);
     r.w = smaller(r.w, source.w), r.h = smaller(r.h, source.h);
     if (!r.w || !r.h) return;
     uint32_t *d = pixel(p, r.x, r.y), *s = pixel(p, source.x, source.y);
-    if (rop == SVGA_ROP_COPY) {
+    if (rop == SVGA_ROP_COPY && r.w < 32 && apart(source, r)) {
+        pixman_blt(p->lent.screen, p->lent.screen, (int)p->width, (int)p->width, 32, 32, (int)source.x, (int)source.y, (int)r.x, (int)r.y,
+                   (int)r.w, (int)r.h);
+    } else if (rop == SVGA_ROP_COPY) {
         copy_rows(d, s, p->width, r.w, r.h);
     } else if (d <= s) {
         for (size_t row = 0; row < r.h; row++, d += p->width, s += p->width)

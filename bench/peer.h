@@ -56,9 +56,9 @@ static inline struct rect cut(const uint32_t *a, uint32_t width, uint32_t height
     return r;
 }
 
-// The quickest way for each width: pixman only from some 32 pixels on.
+// The quickest way for each width: pixman only from some 16 pixels on.
 static inline void fill_rows(uint32_t *d, size_t pitch, size_t w, size_t h, uint32_t colour) {
-    if (w >= 32) {
+    if (w >= 16) {
         pixman_fill(d, (int)pitch, 32, 0, 0, (int)w, (int)h, colour);
         return;
     }
