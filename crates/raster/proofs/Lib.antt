@@ -1,3 +1,4 @@
 pub mod Cuts
 pub mod Laws
 mod Plain
+pub mod Stored

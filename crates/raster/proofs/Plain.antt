@@ -1,18 +1,45 @@
--- Raster operation 3 on words: a plain fill and a plain copy.
+-- Fills by their masks, and raster operation 3 on words: a plain fill and a plain copy.
 -- Assumes nothing.
-use mathlib.Core.Path.{_≡_, sym}
+use mathlib.Core.Path.{_≡_, sym, ap, _∙_}
+use mathlib.Core.Bool.{Bool, true, _&&_}
 use mathlib.Core.List.{List}
 use Prim.Native.Nat.{ℕ, _^_, _<_}
+use lib.Dec.{eqb}
 use lib.ListN.{getD}
+use borrow.Author.Tests.{eqb-true}
 use Rattle.geometry.specs.declared.Rect.{Rect}
+use Rattle.geometry.proofs.Tests.{both}
 use Rattle.geometry.proofs.Painted.{painted-same}
+use Rattle.pixel.specs.Masks.{reducedOf}
+use Rattle.pixel.proofs.ByMasks.{reduced, nothing-kept}
 use Rattle.pixel.proofs.Laws.{copy-stores-source}
-use Rattle.raster.specs.CutPainters.{storedIn, filledCut, movedCut, copiedCut}
+use Rattle.raster.specs.CutPainters.{storedIn, reducedCut, filledCut, movedCut, copiedCut}
+
+-- a rectangle of one pixel
+pub single : (r : Rect) {b : Bool} → b ≡ eqb (r .w) 1 && eqb (r .h) 1 → b ≡ true → (r .w ≡ 1) × (r .h ≡ 1)
+single r e t = let s = both (eqb (r .w) 1) (eqb (r .h) 1) (sym e ∙ t) in (eqb-true (r .w) 1 (s .0), eqb-true (r .h) 1 (s .1))
 
 pub plain-filled : (width : ℕ) (r : Rect) (colour : ℕ) (old : List ℕ) → colour < 2 ^ 32 → ((k : ℕ) → getD old k 0 < 2 ^ 32)
     → storedIn width (r .x) (r .y) (r .w) (r .h) colour old ≡ filledCut width r colour 3 old
 unfolding storedIn filledCut
 plain-filled width r colour old fits words = painted-same _ _ _ old (λ k _ _. sym (copy-stores-source colour (getD old k 0) fits (words k)))
+
+pub pixel-filled : (width : ℕ) (r : Rect) (colour : ℕ) (old : List ℕ) → (r .w ≡ 1) × (r .h ≡ 1) → colour < 2 ^ 32 → ((k : ℕ) → getD old k 0 < 2 ^ 32)
+    → storedIn width (r .x) (r .y) 1 1 colour old ≡ filledCut width r colour 3 old
+pixel-filled width r colour old one fits words =
+    ap (λ w. storedIn width (r .x) (r .y) w 1 colour old) (sym (one .0)) ∙ ap (λ h. storedIn width (r .x) (r .y) (r .w) h colour old) (sym (one .1))
+    ∙ plain-filled width r colour old fits words
+
+-- the masks of an operation and a colour give the operation
+pub masked-filled : (width : ℕ) (r : Rect) (colour rop : ℕ) (old : List ℕ) → colour < 2 ^ 32 → ((k : ℕ) → getD old k 0 < 2 ^ 32)
+    → reducedCut width r (reducedOf rop colour .keep) (reducedOf rop colour .flip) old ≡ filledCut width r colour rop old
+unfolding reducedCut filledCut
+masked-filled width r colour rop old fits words = painted-same _ _ _ old (λ k _ _. reduced rop colour (getD old k 0) fits (words k))
+
+-- where nothing is kept, the flip is stored
+pub flip-stored : (width : ℕ) (r : Rect) (flip : ℕ) (old : List ℕ) → storedIn width (r .x) (r .y) (r .w) (r .h) flip old ≡ reducedCut width r 0 flip old
+unfolding storedIn reducedCut
+flip-stored width r flip old = painted-same _ _ _ old (λ k _ _. sym (nothing-kept flip (getD old k 0)))
 
 pub plain-copied : (width sx sy : ℕ) (r : Rect) (old : List ℕ) → ((k : ℕ) → getD old k 0 < 2 ^ 32)
     → movedCut width sx sy r old ≡ copiedCut width sx sy r 3 old

@@ -4,15 +4,16 @@ use geometry::Cut;
 use geometry::Rect;
 use pixel::Masks;
 ghost use mathlib.Core.Path.{_≡_};
-ghost use mathlib.Core.Bool.{Bool};
+ghost use mathlib.Core.Bool.{Bool, _&&_};
 ghost use Prim.Native.Nat.{_+_, _≤_, _<_};
+ghost use lib.Dec.{eqb};
 ghost use lib.ListN.{length, getD};
 ghost use Rattle.geometry.specs.Pixels.{tabulate};
 ghost use Rattle.geometry.specs.Parts.{front, moved, next, Inside, Ordered, after};
 ghost use Rattle.pixel.specs.RasterOperation.{rasterOp};
 ghost use Rattle.pixel.specs.Masks.{reducePixel, masksOf, mergePixel};
 ghost use Rattle.raster.specs.Painters.{rowsFit, filled, updated, copied};
-ghost use Rattle.raster.specs.CutPainters.{storedIn, filledCut, updatedCut, movedCut, copiedCut};
+ghost use Rattle.raster.specs.CutPainters.{storedIn, reducedCut, filledCut, updatedCut, movedCut, copiedCut};
 
 fn rows_fit(width: u32, rows: u32, len: usize) -> bool
     ensures { λ r. ⌜ r ≡ rowsFit width rows len ⌝ }
@@ -50,54 +51,71 @@ fn reduce_row(row: &mut [u32], keep: u32, flip: u32)
     }
 }
 
-fn fill_row(row: &mut [u32], keep: u32, flip: u32)
-    ensures { λ _. ⌜ now (row .exit) ≡ tabulate (length (now (row .entry))) (λ i. reducePixel keep flip (getD (now (row .entry)) i 0)) ⌝ }
+// A row of fewer than 32 pixels, four at a time behind the first ones: stores that begin at a multiple of four pixels cross no cache line where the
+// screen's memory begins at one.
+fn store_short(row: &mut [u32], first: usize, colour: u32)
+    ensures { λ _. ⌜ now (row .exit) ≡ tabulate (length (now (row .entry))) (λ i. colour) ⌝ }
 {
-    if keep == 0 {
-        store_row(row, flip);
+    let n = row.len();
+    if n <= first {
+        store_row(row, colour);
         return;
     }
-    reduce_row(row, keep, flip);
+    store_row(&mut row[0..first], colour);
+    let mut i = first;
+    while 4 <= n - i {
+        let past = i + 4;
+        store_row(&mut row[i..past], colour);
+        i += 4;
+    }
+    store_row(&mut row[i..n], colour);
 }
 
-// The rows of a plain fill, w pixels each.
-fn store_rows(screen: &mut [u32], width: u32, area: Rect, w: u32, colour: u32)
-    requires { ⌜ Inside width (area .x) (area .y) w (area .h) (length (now screen)) ⌝ }
-    ensures { λ _. ⌜ now (screen .exit) ≡ storedIn width (area .x) (area .y) w (area .h) colour (now (screen .entry)) ⌝ }
+// A row of any length that begins at a place of the screen.
+fn store_span(row: &mut [u32], at: usize, colour: u32)
+    ensures { λ _. ⌜ now (row .exit) ≡ tabulate (length (now (row .entry))) (λ i. colour) ⌝ }
+{
+    if 32 <= row.len() {
+        store_row(row, colour);
+        return;
+    }
+    store_short(row, (4 - at % 4) % 4, colour);
+}
+
+// The rows of a fill that keeps nothing.
+fn store_rows(screen: &mut [u32], width: u32, area: Rect, colour: u32)
+    requires { ⌜ Inside width (area .x) (area .y) (area .w) (area .h) (length (now screen)) ⌝ }
+    ensures { λ _. ⌜ now (screen .exit) ≡ storedIn width (area .x) (area .y) (area .w) (area .h) colour (now (screen .entry)) ⌝ }
 {
     let step = width as usize;
     let x = area.x as usize;
     let y = area.y as usize;
-    let n = w as usize;
+    let n = area.w as usize;
     let h = area.h as usize;
     let mut j = 0;
     while j < h {
         let at = (y + j) * step + x;
         let past = at + n;
-        store_row(&mut screen[at..past], colour);
+        store_span(&mut screen[at..past], at, colour);
         j += 1;
     }
 }
 
-// A plain fill. A column apart: with a constant width its rows are single stores.
-fn store_cut(screen: &mut [u32], width: u32, area: Rect, colour: u32)
-    requires { ⌜ Inside width (area .x) (area .y) (area .w) (area .h) (length (now screen)) ⌝ }
-    ensures { λ _. ⌜ now (screen .exit) ≡ storedIn width (area .x) (area .y) (area .w) (area .h) colour (now (screen .entry)) ⌝ }
+// A single pixel: no loop.
+fn store_pixel(screen: &mut [u32], width: u32, x: u32, y: u32, colour: u32)
+    requires { ⌜ Inside width x y 1 1 (length (now screen)) ⌝ }
+    ensures { λ _. ⌜ now (screen .exit) ≡ storedIn width x y 1 1 colour (now (screen .entry)) ⌝ }
 {
-    if area.w == 1 {
-        store_rows(screen, width, area, 1, colour);
-        return;
-    }
-    store_rows(screen, width, area, area.w, colour);
+    let at = y as usize * width as usize + x as usize;
+    let past = at + 1;
+    store_row(&mut screen[at..past], colour);
 }
 
-fn reduce_cut(screen: &mut [u32], width: u32, area: Rect, colour: u32, rop: u32)
+// The rows of a fill that keeps something of the old pixels.
+fn reduce_rows(screen: &mut [u32], width: u32, area: Rect, keep: u32, flip: u32)
     requires { ⌜ Inside width (area .x) (area .y) (area .w) (area .h) (length (now screen)) ⌝ }
-    ensures { λ _. ⌜ now (screen .exit) ≡ filledCut width area colour rop (now (screen .entry)) ⌝ }
+    ensures { λ _. ⌜ now (screen .exit) ≡ reducedCut width area keep flip (now (screen .entry)) ⌝ }
 {
-    let r = pixel::reduce(rop, colour);
-    let keep = r.keep;
-    let flip = r.flip;
     let step = width as usize;
     let x = area.x as usize;
     let y = area.y as usize;
@@ -107,20 +125,46 @@ fn reduce_cut(screen: &mut [u32], width: u32, area: Rect, colour: u32, rop: u32)
     while j < h {
         let at = (y + j) * step + x;
         let end = at + w;
-        fill_row(&mut screen[at..end], keep, flip);
+        reduce_row(&mut screen[at..end], keep, flip);
         j += 1;
     }
+}
+
+fn reduce_cut(screen: &mut [u32], width: u32, area: Rect, colour: u32, rop: u32)
+    requires { ⌜ Inside width (area .x) (area .y) (area .w) (area .h) (length (now screen)) ⌝ }
+    ensures { λ _. ⌜ now (screen .exit) ≡ filledCut width area colour rop (now (screen .entry)) ⌝ }
+{
+    let r = pixel::reduce(rop, colour);
+    if r.keep == 0 {
+        store_rows(screen, width, area, r.flip);
+        return;
+    }
+    reduce_rows(screen, width, area, r.keep, r.flip);
+}
+
+fn is_pixel(area: Rect) -> bool
+    ensures { λ r. ⌜ r ≡ eqb (area .w) 1 && eqb (area .h) 1 ⌝ }
+{
+    if area.w != 1 {
+        return false;
+    }
+    area.h == 1
 }
 
 fn fill_cut(screen: &mut [u32], width: u32, area: Rect, colour: u32, rop: u32)
     requires { ⌜ Inside width (area .x) (area .y) (area .w) (area .h) (length (now screen)) ⌝ }
     ensures { λ _. ⌜ now (screen .exit) ≡ filledCut width area colour rop (now (screen .entry)) ⌝ }
 {
-    if rop == 3 {
-        store_cut(screen, width, area, colour);
+    if rop != 3 {
+        reduce_cut(screen, width, area, colour, rop);
         return;
     }
-    reduce_cut(screen, width, area, colour, rop);
+    let single = is_pixel(area);
+    if single {
+        store_pixel(screen, width, area.x, area.y, colour);
+        return;
+    }
+    store_rows(screen, width, area, colour);
 }
 
 // Each pixel of the rectangle in the rows gets the raster operation of the colour and what stood there. Any rectangle will do.

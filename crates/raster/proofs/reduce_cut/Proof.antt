@@ -1,69 +1,27 @@
--- `raster::reduce_cut` meets its contract. The invariant: the first j rows of the area are painted.
+-- `raster::reduce_cut` meets its contract.
 -- Assumes nothing.
-use mathlib.Core.Path.{_≡_, ap, _∙_}
-use mathlib.Core.List.{List}
-use Prim.Native.Nat.{ℕ, _+_, _*_, _-_, _≤_}
-use native.Mathlib.Omega.{arith}
-use lib.ListN.{length, getD}
 use borrow.Author.Needs.{needs}
-use Rattle.geometry.specs.Pixels.{inRect}
-use Rattle.raster.specs.CutPainters.{filledCut}
-use Rattle.pixel.specs.RasterOperation.{rasterOp}
-use Rattle.pixel.specs.Masks.{reducePixel}
-use Rattle.pixel.proofs.ByMasks.{reduced}
-use Rattle.geometry.proofs.Painted.{Done, done-row, done-part}
-use Rattle.geometry.proofs.Rows.{row-room, rows-none, rows-grow, grow-right}
+use mathlib.Core.Path.{_∙_}
+use Rattle.raster.proofs.Plain.{masked-filled, flip-stored}
 use Rattle.raster.proofs.reduce_cut.Statement.{statement}
 use Rattle.raster.proofs.reduce_cut.Tie as tie
 
-abbrev new : ℕ → ℕ → List ℕ → ℕ → ℕ
-new rop colour d k = rasterOp rop colour (getD d k 0)
-
-abbrev Inv-loop : tie.InvT-loop
-Inv-loop screen₀ width colour rop keep flip step x y w h j₀ screen j =
-    (j ≤ h) × Done (inRect step x y w j) (new rop colour screen₀) screen₀ screen
-
-abbrev μ-loop : tie.MeasureT-loop
-μ-loop screen₀ width colour rop keep flip step x y w h j₀ screen j = h - j
-
-abbrev Start : tie.In-loop Inv-loop μ-loop → tie.Start Inv-loop μ-loop
-Start c = c .before .before .before .before .before .before .before .before
-
-abbrev at : tie.In-loop Inv-loop μ-loop → ℕ
-at c = let a = Start c .args in (a .area .y + c .before .loop .j) * a .width + a .area .x
-
--- the row of a turn lies in the screen
-room : (c : tie.In-loop Inv-loop μ-loop) → at c + Start c .args .area .w ≤ length (Start c .args .screen .now)
-room c = row-room (Start c .pre) (c .loop-test .taken)
-
-loop-holds : tie.Need-loop-holds Inv-loop μ-loop
-loop-holds c = (search needs, rows-none _ _ _ _ _ _)
-
-loop-again : tie.Need-loop-again Inv-loop μ-loop
-loop-again c =
-    let turn = c .before .before .before .before in
-    let a = Start turn .args in
-    let known = turn .before .before .before .before .before .before .before in
-    let reduced-by = turn .before .before .before .before .before .before .reduce in
-    let done = turn .before .loop .inv .1 in
-    let grows = rows-grow (a .width) (a .area .x) (a .area .w) _ _ _ _ _ (Start turn .pre .across) (grow-right (a .area .y) (turn .before .loop .j) 1) in
-    let n : at turn + a .area .w - at turn ≡ a .area .w = omega arith in (
-      search needs,
-      rw n (done-row done grows (room turn) _ _ (rw n at (c .before .before .fill-row .ensures))
-          (λ k h t. ap (reducePixel (reduced-by .result .keep) (reduced-by .result .flip)) (done-part done grows (room turn) k h t)
-          ∙ rw (reduced-by .ensures) (reduced (a .rop) (a .colour) (getD (a .screen .now) k 0) (Start turn .fits .colour .fits) (known .slice-known .given k .fits)))),
-    )
-
-returns : tie.Need-returns Inv-loop μ-loop
-unfolding filledCut
+returns : tie.Need-returns
 returns c =
-    let e : c .before .loop .j ≡ c .before .before .before .before .before .before .before .before .args .area .h = omega arith in
-    rw e at (c .before .loop .inv .1 .is)
+    let start = c .before .before .before .before .before .before .before .before in
+    let a = start .args in
+    let masked = rw (← (c .before .before .before .before .before .before .reduce .ensures)) at (masked-filled (a .width) (a .area) (a .colour) (a .rop) (a .screen .now) (start .fits .colour .fits) (λ k. c .before .before .before .before .before .before .before .slice-known .given k .fits)) in
+    c .before .before .store-rows .ensures ∙ flip-stored (a .width) (a .area) _ (a .screen .now) ∙ (rw (c .before .before .before .before .if1 .taken) at masked)
+
+returns-2 : tie.Need-returns-2
+returns-2 c =
+    let start = c .before .before .before .before .before .before .before .before in
+    let a = start .args in
+    c .before .before .reduce-rows .ensures
+    ∙ (rw (← (c .before .before .before .before .before .before .reduce .ensures)) at (masked-filled (a .width) (a .area) (a .colour) (a .rop) (a .screen .now) (start .fits .colour .fits) (λ k. c .before .before .before .before .before .before .before .slice-known .given k .fits)))
 
 pub reduce-cut-spec : {M : Type 1} → statement M
 reduce-cut-spec =
     tie.close
-    (tie.spec Inv-loop μ-loop (λ c κs. search needs) (λ c. search needs) (λ c. search needs) (λ c. search needs) (λ c. search needs) loop-holds
-    (λ c. search needs) (λ c. omega (arith, room c)) (λ c. omega (arith, room c)) (λ c. omega (arith, room c)) (λ c. omega (arith, room c))
-    (λ c. search needs) (λ c. search needs) (λ c. omega (arith, room c)) (λ c κs. search needs) (λ c. search needs) (λ c. search needs)
-    loop-again (λ c. search needs) returns)
+    (tie.spec
+    (λ c κs. search needs) (λ c κs. search needs) (λ c. search needs) returns (λ c κs. search needs) (λ c. search needs) returns-2)
