@@ -1,3 +1,4 @@
 pub mod Commands
 pub mod Words
 pub mod Offered
+pub mod Heads

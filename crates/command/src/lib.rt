@@ -4,7 +4,9 @@ use geometry::Rect;
 use order::Cause;
 use order::End;
 ghost use mathlib.Core.Path.{_≡_};
-ghost use Rattle.command.specs.Commands.{kindOf, offered, headWords, sizeOf, headGood, operandsGood, actionOf, turnOn};
+ghost use Rattle.command.specs.declared.Command.the-variants.{DefineAlphaCursor, Escape};
+ghost use Rattle.command.specs.Commands.{kindOf};
+ghost use Rattle.command.specs.Heads.{rectFirst, rectSecond, rectThird, updateIn, fillIn, copyIn, shapeIn, fixedTurn, onHead, turnHead, plainSize};
 
 // The commands that are offered, and every other number.
 pub enum Kind {
@@ -26,7 +28,7 @@ pub struct Source {
     pub y: u32,
 }
 
-// A command with its arguments, as its head's words have them. A cursor's pixels and an escape's data stay in the ring.
+// A command with its arguments, as its head's words have them: what definitions and contracts speak of. A cursor's pixels and an escape's data stay in the ring.
 pub enum Command {
     Update(Rect),
     RectFill(u32, Rect),
@@ -55,6 +57,18 @@ pub enum Turn {
     Executes(Action, u64),
 }
 
+// The first eight words that wait, 0 where fewer wait: a command's number and what the longest head has.
+pub struct Head {
+    pub number: u32,
+    pub w1: u32,
+    pub w2: u32,
+    pub w3: u32,
+    pub w4: u32,
+    pub w5: u32,
+    pub w6: u32,
+    pub w7: u32,
+}
+
 // The kind of command that a number names.
 // Rules out: command 20 or 21 offered; 4294967295 taken for one that is offered.
 pub fn kind_of(number: u32) -> Kind
@@ -74,129 +88,169 @@ pub fn kind_of(number: u32) -> Kind
     }
 }
 
-// Whether a kind is one of the nine.
-// Rules out: a foreign number offered; an escape left out.
-pub fn is_offered(kind: Kind) -> bool
-    ensures { λ r. ⌜ r ≡ offered kind ⌝ }
+// ---- what a turn finds, by a command's kind and the words of its head
+
+// The rectangle that follows a head's number.
+// Rules out: width and height swapped; a rectangle that begins at the number.
+pub fn rect_first(h: Head) -> Rect
+    ensures { λ r. ⌜ r ≡ rectFirst h ⌝ }
 {
-    match kind {
-        Kind::Update => true,
-        Kind::RectFill => true,
-        Kind::RectCopy => true,
-        Kind::RectRopFill => true,
-        Kind::RectRopCopy => true,
-        Kind::DefineAlphaCursor => true,
-        Kind::UpdateVerbose => true,
-        Kind::Fence => true,
-        Kind::Escape => true,
-        Kind::Foreign => false,
+    Rect {
+        x: h.w1,
+        y: h.w2,
+        w: h.w3,
+        h: h.w4,
     }
 }
 
-// The words of a command's head, its number included; a command of fixed length is all head.
-// Rules out: the number left out of the count; a cursor's head of five words.
-pub fn head_words(kind: Kind) -> u32
-    ensures { λ r. ⌜ r ≡ headWords kind ⌝ }
+// The rectangle behind one word, a fill's colour.
+// Rules out: the colour taken for x.
+pub fn rect_second(h: Head) -> Rect
+    ensures { λ r. ⌜ r ≡ rectSecond h ⌝ }
+{
+    Rect {
+        x: h.w2,
+        y: h.w3,
+        w: h.w4,
+        h: h.w5,
+    }
+}
+
+// The rectangle behind two words, a copy's source.
+// Rules out: the source taken for the destination.
+pub fn rect_third(h: Head) -> Rect
+    ensures { λ r. ⌜ r ≡ rectThird h ⌝ }
+{
+    Rect {
+        x: h.w3,
+        y: h.w4,
+        w: h.w5,
+        h: h.w6,
+    }
+}
+
+fn update_in(h: Head) -> Action
+    ensures { λ r. ⌜ r ≡ updateIn h ⌝ }
+{
+    let area = rect_first(h);
+    Action::Update(area)
+}
+
+fn fill_in(h: Head, rop: u32) -> Action
+    ensures { λ r. ⌜ r ≡ fillIn h rop ⌝ }
+{
+    let area = rect_second(h);
+    Action::Fill(area, h.w1, rop)
+}
+
+fn copy_in(h: Head, rop: u32) -> Action
+    ensures { λ r. ⌜ r ≡ copyIn h rop ⌝ }
+{
+    let from = Source { x: h.w1, y: h.w2 };
+    let area = rect_third(h);
+    Action::Copy(from, area, rop)
+}
+
+fn shape_in(h: Head) -> Shape
+    ensures { λ r. ⌜ r ≡ shapeIn h ⌝ }
+{
+    Shape {
+        id: h.w1,
+        hotx: h.w2,
+        hoty: h.w3,
+        w: h.w4,
+        h: h.w5,
+    }
+}
+
+// A command of fixed size, with the raster operation that it names. One function for each kind: a turn then has its tests at constants.
+fn turn_fixed(action: Action, rop: u32, size: u64, n: u64, carries: u64) -> Turn
+    ensures { λ r. ⌜ r ≡ fixedTurn action rop size n carries ⌝ }
+{
+    if n < size {
+        return Turn::Ends(End::Waiting);
+    }
+    if carries < size {
+        return Turn::Ends(End::Fault(Cause::TooLong));
+    }
+    if 15 < rop {
+        return Turn::Ends(End::Fault(Cause::BadOperand));
+    }
+    Turn::Executes(action, size)
+}
+
+fn turn_cursor(shape: Shape, n: u64, carries: u64) -> Turn
+    ensures { λ r. ⌜ r ≡ onHead 6 (DefineAlphaCursor shape) n carries ⌝ }
+{
+    if n < 6 {
+        return Turn::Ends(End::Waiting);
+    }
+    let good = cursor::shape_good(shape);
+    if !good {
+        return Turn::Ends(End::Fault(Cause::BadOperand));
+    }
+    let size = 6 + shape.w as u64 * shape.h as u64;
+    if carries < size {
+        return Turn::Ends(End::Fault(Cause::TooLong));
+    }
+    if n < size {
+        return Turn::Ends(End::Waiting);
+    }
+    Turn::Executes(Action::Define(shape), size)
+}
+
+fn turn_escape(space: u32, bytes: u32, n: u64, carries: u64) -> Turn
+    ensures { λ r. ⌜ r ≡ onHead 3 (Escape space bytes) n carries ⌝ }
+{
+    if n < 3 {
+        return Turn::Ends(End::Waiting);
+    }
+    let size = 3 + (bytes as u64 + 3) / 4;
+    if carries < size {
+        return Turn::Ends(End::Fault(Cause::TooLong));
+    }
+    if n < size {
+        return Turn::Ends(End::Waiting);
+    }
+    Turn::Executes(Action::Nothing, size)
+}
+
+// A turn where words wait, by the first one's kind: n of them wait, and the ring carries so many.
+// Rules out: waiting for ever on a command longer than the ring; a raster operation judged before all words are there; a bad cursor that waits for its pixels.
+pub fn turn_in(kind: Kind, h: Head, n: u64, carries: u64) -> Turn
+    ensures { λ r. ⌜ r ≡ turnHead kind h n carries ⌝ }
+{
+    match kind {
+        Kind::Update => turn_fixed(update_in(h), 3, 5, n, carries),
+        Kind::RectFill => turn_fixed(fill_in(h, 3), 3, 6, n, carries),
+        Kind::RectCopy => turn_fixed(copy_in(h, 3), 3, 7, n, carries),
+        Kind::RectRopFill => turn_fixed(fill_in(h, h.w6), h.w6, 7, n, carries),
+        Kind::RectRopCopy => turn_fixed(copy_in(h, h.w7), h.w7, 8, n, carries),
+        Kind::DefineAlphaCursor => turn_cursor(shape_in(h), n, carries),
+        Kind::UpdateVerbose => turn_fixed(update_in(h), 3, 6, n, carries),
+        Kind::Fence => turn_fixed(Action::Fence(h.w1), 3, 2, n, carries),
+        Kind::Escape => turn_escape(h.w1, h.w2, n, carries),
+        Kind::Foreign => Turn::Ends(End::Fault(Cause::NotOffered)),
+    }
+}
+
+// ---- plain commands
+
+// The words of a plain command: an update, a fill or copy that names no raster operation, a fence. 0 for any other.
+// Rules out: a command that can be refused for its operands taken for a plain one.
+pub fn plain_size(kind: Kind) -> usize
+    ensures { λ r. ⌜ r ≡ plainSize kind ⌝ }
 {
     match kind {
         Kind::Update => 5,
         Kind::RectFill => 6,
         Kind::RectCopy => 7,
-        Kind::RectRopFill => 7,
-        Kind::RectRopCopy => 8,
-        Kind::DefineAlphaCursor => 6,
+        Kind::RectRopFill => 0,
+        Kind::RectRopCopy => 0,
+        Kind::DefineAlphaCursor => 0,
         Kind::UpdateVerbose => 6,
         Kind::Fence => 2,
-        Kind::Escape => 3,
-        Kind::Foreign => 1,
+        Kind::Escape => 0,
+        Kind::Foreign => 0,
     }
-}
-
-fn head_good(command: Command) -> bool
-    ensures { λ r. ⌜ r ≡ headGood command ⌝ }
-{
-    match command {
-        Command::Update(_) => true,
-        Command::RectFill(_, _) => true,
-        Command::RectCopy(_, _) => true,
-        Command::RectRopFill(_, _, _) => true,
-        Command::RectRopCopy(_, _, _) => true,
-        Command::DefineAlphaCursor(shape) => cursor::shape_good(shape),
-        Command::UpdateVerbose(_, _) => true,
-        Command::Fence(_) => true,
-        Command::Escape(_, _) => true,
-    }
-}
-
-// The words of the whole command.
-// Rules out: an escape's size rounded down to words; a cursor's pixels left out.
-pub fn size_of(command: Command) -> u64
-    ensures { λ r. ⌜ r ≡ sizeOf command ⌝ }
-{
-    match command {
-        Command::Update(_) => 5,
-        Command::RectFill(_, _) => 6,
-        Command::RectCopy(_, _) => 7,
-        Command::RectRopFill(_, _, _) => 7,
-        Command::RectRopCopy(_, _, _) => 8,
-        Command::DefineAlphaCursor(shape) => 6 + shape.w as u64 * shape.h as u64,
-        Command::UpdateVerbose(_, _) => 6,
-        Command::Fence(_) => 2,
-        Command::Escape(_, bytes) => 3 + (bytes as u64 + 3) / 4,
-    }
-}
-
-fn operands_good(command: Command) -> bool
-    ensures { λ r. ⌜ r ≡ operandsGood command ⌝ }
-{
-    match command {
-        Command::Update(_) => true,
-        Command::RectFill(_, _) => true,
-        Command::RectCopy(_, _) => true,
-        Command::RectRopFill(_, _, rop) => rop <= 15,
-        Command::RectRopCopy(_, _, rop) => rop <= 15,
-        Command::DefineAlphaCursor(_) => true,
-        Command::UpdateVerbose(_, _) => true,
-        Command::Fence(_) => true,
-        Command::Escape(_, _) => true,
-    }
-}
-
-fn action_of(command: Command) -> Action
-    ensures { λ r. ⌜ r ≡ actionOf command ⌝ }
-{
-    match command {
-        Command::Update(area) => Action::Update(area),
-        Command::RectFill(colour, area) => Action::Fill(area, colour, 3),
-        Command::RectCopy(from, area) => Action::Copy(from, area, 3),
-        Command::RectRopFill(colour, area, rop) => Action::Fill(area, colour, rop),
-        Command::RectRopCopy(from, area, rop) => Action::Copy(from, area, rop),
-        Command::DefineAlphaCursor(shape) => Action::Define(shape),
-        Command::UpdateVerbose(area, _) => Action::Update(area),
-        Command::Fence(number) => Action::Fence(number),
-        Command::Escape(_, _) => Action::Nothing,
-    }
-}
-
-// A turn on a command whose head is complete. So many words wait, its own included, and so many the ring carries.
-// Rules out: waiting for ever on a command longer than the ring; a raster operation judged before all words are there.
-pub fn turn_on(command: Command, waiting: u64, carried: u64) -> Turn
-    ensures { λ r. ⌜ r ≡ turnOn command waiting carried ⌝ }
-{
-    let good_head = head_good(command);
-    if !good_head {
-        return Turn::Ends(End::Fault(Cause::BadOperand));
-    }
-    let size = size_of(command);
-    if carried < size {
-        return Turn::Ends(End::Fault(Cause::TooLong));
-    }
-    if waiting < size {
-        return Turn::Ends(End::Waiting);
-    }
-    let good = operands_good(command);
-    if !good {
-        return Turn::Ends(End::Fault(Cause::BadOperand));
-    }
-    Turn::Executes(action_of(command), size)
 }

@@ -4,6 +4,9 @@ use Prim.Native.Nat.{ℕ, _*_}
 use mathlib.Core.List.{List, _++_}
 use lib.ListN.{take, drop}
 use Rattle.cursor.specs.declared.Defined.the-variants.{Cursor}
+use Rattle.command.specs.declared.Kind.{Kind}
+use Rattle.command.specs.declared.Kind.the-variants as K
+use Rattle.command.specs.declared.Head.{Head}
 use Rattle.command.specs.declared.Action.{Action}
 use Rattle.command.specs.declared.Action.the-variants.{Update, Fill, Copy, Define, Fence, Nothing}
 use Rattle.raster.specs.Painters.{filled, updated, copied}
@@ -49,3 +52,16 @@ done width rows framebuffer action words m = record {
   cursor = cursorAfter action words (m .cursor);
   marks = marksAfter action (m .marks);
 }
+
+-- The fence that a plain command leaves, by its head.
+unfoldable pub fenceAfter : Kind → Head → ℕ → ℕ
+fenceAfter K.Update h fence = fence
+fenceAfter K.RectFill h fence = fence
+fenceAfter K.RectCopy h fence = fence
+fenceAfter K.RectRopFill h fence = fence
+fenceAfter K.RectRopCopy h fence = fence
+fenceAfter K.DefineAlphaCursor h fence = fence
+fenceAfter K.UpdateVerbose h fence = fence
+fenceAfter K.Fence h fence = h .w1
+fenceAfter K.Escape h fence = fence
+fenceAfter K.Foreign h fence = fence

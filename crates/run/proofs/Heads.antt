@@ -1,4 +1,4 @@
--- A turn by the words of a command's head.
+-- A turn on the words of a view by the words of a command's head, and plain commands.
 -- Assumes nothing.
 use mathlib.Core.Path.{_≡_, refl, sym, ap, _∙_}
 use mathlib.Core.Bool.{true, cond}
@@ -8,28 +8,27 @@ use native.Mathlib.Omega.{arith}
 use native.Mathlib.Nat.{add-zero}
 use lib.Dec.{leb}
 use lib.ListN.{length, getD}
-use borrow.Author.Tests.{leb-true, le-leb}
+use borrow.Author.Tests.{leb-true}
 use Rattle.geometry.proofs.Tests.{both}
 use Rattle.order.specs.declared.End.the-variants.{Waiting, Fault}
 use Rattle.order.specs.declared.Cause.the-variants.{NotOffered}
-use Rattle.ring.proofs.WaitingLaws.{InRing, by-test, getD-straight}
+use Rattle.cursor.specs.declared.Defined.{Defined}
+use Rattle.ring.specs.Waiting.{carried}
+use Rattle.ring.proofs.WaitingLaws.{InRing, getD-straight}
 use Rattle.command.specs.declared.Kind.{Kind}
 use Rattle.command.specs.declared.Kind.the-variants as K
+use Rattle.command.specs.declared.Head.{Head}
 use Rattle.command.specs.declared.Command.{Command}
-use Rattle.command.specs.declared.Action.{Action}
-use Rattle.command.specs.declared.Action.the-variants as A
 use Rattle.command.specs.declared.Turn.{Turn}
 use Rattle.command.specs.declared.Turn.the-variants.{Ends, Executes}
-use Rattle.command.specs.Commands.{kindOf, offered, headWords, sizeOf, headGood, operandsGood, actionOf, turnOn}
-use Rattle.command.specs.Words.{decoded, turnWords}
+use Rattle.command.specs.Commands.{kindOf, offered, headWords, turnOn}
+use Rattle.command.specs.Words.{turnWords}
+use Rattle.command.specs.Heads.{headIn, onHead, turnHead, plainSize, plainAction}
+use Rattle.command.proofs.Heads.{plain-executes, decoded-head}
+use Rattle.effect.specs.Effects.{cursorAfter, marksAfter, fenceAfter}
 use Rattle.run.specs.declared.View.{View}
-use Rattle.run.specs.declared.Head.{Head}
-use Rattle.run.specs.Turns.{InView, wordsIn, near}
-use Rattle.run.specs.Heads.{headIn, headFrom, commandOf, updateIn, fillIn, copyIn, fixedTurn, onHead, turnHead, plainSize, plainAction, fenceAfter}
+use Rattle.run.specs.Turns.{InView, wordsIn, near, headFrom}
 use Rattle.run.specs.Going.{marked}
-use Rattle.cursor.specs.declared.Defined.{Defined}
-use Rattle.effect.specs.Effects.{cursorAfter, marksAfter}
-use Rattle.ring.specs.Waiting.{carried}
 use Rattle.run.proofs.Laws.{turn-view}
 
 -- eight words that wait before the ring's end are the first eight of the view
@@ -50,59 +49,6 @@ head-near ring v inside some room = λ i. record {
 
     word : (k : ℕ) → k < 8 → getD ring (v .at + k) 0 ≡ getD (wordsIn ring v) k 0
     word k h = sym (getD-straight ring (v .lo) (v .hi) (v .at) (v .n) k held (omega arith) (omega arith))
-
--- a command of fixed size
-fixed-turn : (a : Action) (c : Command) (rop size n cap : ℕ) → headGood c ≡ true → sizeOf c ≡ size → operandsGood c ≡ leb rop 15 → actionOf c ≡ a
-    → fixedTurn a rop size n cap ≡ onHead size c n cap
-unfolding fixedTurn onHead turnOn
-fixed-turn a c rop size n cap good is by does = by-test (leb size n) (λ t. rw (good, is, by, does, t)) (λ t. rw t)
-
-module _ (h : Head) (n cap : ℕ) where
-  pub fixed-update : fixedTurn (updateIn h) 3 5 n cap ≡ turnHead K.Update h n cap
-  unfolding turnHead headWords commandOf headGood sizeOf operandsGood actionOf
-  fixed-update = fixed-turn _ (commandOf K.Update h) 3 5 n cap refl refl refl refl
-
-  pub fixed-fill : fixedTurn (fillIn h 3) 3 6 n cap ≡ turnHead K.RectFill h n cap
-  unfolding turnHead headWords commandOf headGood sizeOf operandsGood actionOf
-  fixed-fill = fixed-turn _ (commandOf K.RectFill h) 3 6 n cap refl refl refl refl
-
-  pub fixed-copy : fixedTurn (copyIn h 3) 3 7 n cap ≡ turnHead K.RectCopy h n cap
-  unfolding turnHead headWords commandOf headGood sizeOf operandsGood actionOf
-  fixed-copy = fixed-turn _ (commandOf K.RectCopy h) 3 7 n cap refl refl refl refl
-
-  pub fixed-rop-fill : fixedTurn (fillIn h (h .w6)) (h .w6) 7 n cap ≡ turnHead K.RectRopFill h n cap
-  unfolding turnHead headWords commandOf headGood sizeOf operandsGood actionOf
-  fixed-rop-fill = fixed-turn _ (commandOf K.RectRopFill h) (h .w6) 7 n cap refl refl refl refl
-
-  pub fixed-rop-copy : fixedTurn (copyIn h (h .w7)) (h .w7) 8 n cap ≡ turnHead K.RectRopCopy h n cap
-  unfolding turnHead headWords commandOf headGood sizeOf operandsGood actionOf
-  fixed-rop-copy = fixed-turn _ (commandOf K.RectRopCopy h) (h .w7) 8 n cap refl refl refl refl
-
-  pub fixed-verbose : fixedTurn (updateIn h) 3 6 n cap ≡ turnHead K.UpdateVerbose h n cap
-  unfolding turnHead headWords commandOf headGood sizeOf operandsGood actionOf
-  fixed-verbose = fixed-turn _ (commandOf K.UpdateVerbose h) 3 6 n cap refl refl refl refl
-
-  pub fixed-fence : fixedTurn (A.Fence (h .w1)) 3 2 n cap ≡ turnHead K.Fence h n cap
-  unfolding turnHead headWords commandOf headGood sizeOf operandsGood actionOf
-  fixed-fence = fixed-turn _ (commandOf K.Fence h) 3 2 n cap refl refl refl refl
-
--- a plain command whose words are all there is executed
-fixed-executes : (a : Action) (size n cap : ℕ) → size ≤ n → size ≤ cap → fixedTurn a 3 size n cap ≡ Executes a size
-unfolding fixedTurn
-fixed-executes a size n cap p q = rw (le-leb size n p, le-leb size cap q)
-
-plain-executes : (k : Kind) (h : Head) (n cap : ℕ) → (plainSize k ≡ 0 → ⊥) → 7 ≤ n → 7 ≤ cap → turnHead k h n cap ≡ Executes (plainAction k h) (plainSize k)
-unfolding plainSize plainAction
-plain-executes K.Update h n cap some p q = sym (fixed-update h n cap) ∙ fixed-executes _ 5 n cap (omega arith) (omega arith)
-plain-executes K.RectFill h n cap some p q = sym (fixed-fill h n cap) ∙ fixed-executes _ 6 n cap (omega arith) (omega arith)
-plain-executes K.RectCopy h n cap some p q = sym (fixed-copy h n cap) ∙ fixed-executes _ 7 n cap (omega arith) (omega arith)
-plain-executes K.RectRopFill h n cap some p q = absurd (some refl)
-plain-executes K.RectRopCopy h n cap some p q = absurd (some refl)
-plain-executes K.DefineAlphaCursor h n cap some p q = absurd (some refl)
-plain-executes K.UpdateVerbose h n cap some p q = sym (fixed-verbose h n cap) ∙ fixed-executes _ 6 n cap (omega arith) (omega arith)
-plain-executes K.Fence h n cap some p q = sym (fixed-fence h n cap) ∙ fixed-executes _ 2 n cap (omega arith) (omega arith)
-plain-executes K.Escape h n cap some p q = absurd (some refl)
-plain-executes K.Foreign h n cap some p q = absurd (some refl)
 
 pub plain-marks : (k : Kind) (h : Head) (fence : ℕ) (defined : Defined) → marked (fenceAfter k h fence) defined ≡ marksAfter (plainAction k h) (marked fence defined)
 unfolding fenceAfter plainAction marksAfter
@@ -129,20 +75,6 @@ plain-cursor K.UpdateVerbose h words cursor = refl
 plain-cursor K.Fence h words cursor = refl
 plain-cursor K.Escape h words cursor = refl
 plain-cursor K.Foreign h words cursor = refl
-
--- words give the command that their head gives
-decoded-head : (k : Kind) (w : List ℕ) → decoded k w ≡ commandOf k (headIn w)
-unfolding decoded commandOf
-decoded-head K.Update w = refl
-decoded-head K.RectFill w = refl
-decoded-head K.RectCopy w = refl
-decoded-head K.RectRopFill w = refl
-decoded-head K.RectRopCopy w = refl
-decoded-head K.DefineAlphaCursor w = refl
-decoded-head K.UpdateVerbose w = refl
-decoded-head K.Fence w = refl
-decoded-head K.Escape w = refl
-decoded-head K.Foreign w = refl
 
 -- a turn on the words of a view, by their head
 turn-head : (ring : List ℕ) (v : View) (cap : ℕ) → (v .n ≡ 0 → ⊥)

@@ -15,8 +15,7 @@ use Rattle.effect.specs.declared.Marks.{Marks}
 use Rattle.effect.specs.Effects.{Machine}
 use Rattle.run.specs.declared.View.{View}
 use Rattle.run.specs.declared.Paused.{Paused}
-use Rattle.run.specs.Turns.{wordsIn, passedIn}
-use Rattle.run.specs.Heads.{Known}
+use Rattle.run.specs.Turns.{wordsIn, passedIn, Known}
 use Rattle.run.specs.Run.{Scene, machine, table, placeOf, stamped}
 
 -- So many commands before a run.

@@ -1,4 +1,3 @@
 pub mod Turns
-pub mod Heads
 pub mod Run
 pub mod Going

@@ -1,13 +1,19 @@
 -- The words that wait in a ring memory, as a run walks over them: document 01, "One command out of the ring".
+use mathlib.Core.Path.{_≡_}
 use Prim.Native.Nat.{ℕ, _+_, _-_, _*_, _/_, _%_, _≤_, _<_}
 use mathlib.Core.Bool.{Bool, _&&_}
 use mathlib.Core.List.{List}
 use lib.Dec.{eqb, ltb, leb}
+use lib.ListN.{getD}
 use Rattle.ring.specs.declared.Ring.{Ring}
 use Rattle.ring.specs.Waiting.{ahead, between, words}
 use Rattle.command.specs.declared.Action.{Action}
 use Rattle.command.specs.declared.Action.the-variants.{Update, Fill, Copy, Define, Fence, Nothing}
+use Rattle.command.specs.declared.Head.{Head}
+use Rattle.command.specs.Heads.{headIn}
 use Rattle.run.specs.declared.View.{View}
+use Rattle.run.specs.declared.Next.{Next}
+use Rattle.run.specs.declared.Next.the-variants.{Unread, Read}
 
 -- The words of a view.
 abbrev pub wordsIn : List ℕ → View → List ℕ
@@ -48,3 +54,21 @@ placed g m = leb 4 (g .min) && (leb (g .min) (g .stop) && (ltb (g .stop) (g .max
 -- "NEXT_CMD not a multiple of 4 or outside the ring: 13."
 unfoldable pub nextGood : Ring → ℕ → Bool
 nextGood g next = eqb (next % 4) 0 && (leb (g .min) (next / 4) && ltb (next / 4) (g .max))
+
+-- Eight words from word at on.
+abbrev pub headFrom : List ℕ → ℕ → Head
+headFrom w at = record {
+  number = getD w at 0;
+  w1 = getD w (at + 1) 0;
+  w2 = getD w (at + 2) 0;
+  w3 = getD w (at + 3) 0;
+  w4 = getD w (at + 4) 0;
+  w5 = getD w (at + 5) 0;
+  w6 = getD w (at + 6) 0;
+  w7 = getD w (at + 7) 0;
+}
+
+-- What is known of the next command is what waits.
+abbrev pub Known : Next → List ℕ → Type 0
+Known Unread words = Unit {0}
+Known (Read h) words = h ≡ headIn words

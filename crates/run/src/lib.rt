@@ -1,11 +1,8 @@
 // A run: commands out of the ring, one turn after the other, until the budget is spent or a turn ends it.
 use command::Action;
-use command::Kind;
-use command::Source;
+use command::Head;
 use command::Turn;
-use cursor::Shape;
 use effect::Marks;
-use geometry::Rect;
 use order::Cause;
 use order::End;
 use ring::Ring;
@@ -16,11 +13,10 @@ ghost use lib.ListN.{length, getD, take, drop};
 ghost use Rattle.order.specs.Table.{turnOf};
 ghost use lib.Seq.{paste};
 ghost use Rattle.ring.specs.Waiting.{between, words, carried};
-ghost use Rattle.command.specs.declared.Command.the-variants.{DefineAlphaCursor, Escape};
 ghost use Rattle.command.specs.Words.{turnWords};
-ghost use Rattle.effect.specs.Effects.{screenAfter, cursorAfter};
-ghost use Rattle.run.specs.Turns.{InView, wordsIn, near, passedIn, viewOf, Ready, placed, nextGood};
-ghost use Rattle.run.specs.Heads.{headIn, headFrom, rectFirst, rectSecond, rectThird, updateIn, fillIn, copyIn, shapeIn, fixedTurn, onHead, turnHead, Known, plainSize, plainAction, fenceAfter};
+ghost use Rattle.command.specs.Heads.{headIn};
+ghost use Rattle.effect.specs.Effects.{cursorAfter};
+ghost use Rattle.run.specs.Turns.{InView, wordsIn, near, passedIn, viewOf, Ready, placed, nextGood, headFrom, Known};
 ghost use Rattle.run.specs.Going.{PlainRun};
 ghost use Rattle.run.specs.Run.{ranTo, scene, machine, table, placeOf, outcome, runWords, fitting, lost, answerOf, runIn};
 
@@ -66,18 +62,6 @@ fn word_at(ring: &[u32], v: View, i: usize) -> u32
     }
     let k = lo + (i - first);
     ring[k]
-}
-
-// The first eight words that wait, 0 where fewer wait: a command's number and what the longest head has.
-struct Head {
-    number: u32,
-    w1: u32,
-    w2: u32,
-    w3: u32,
-    w4: u32,
-    w5: u32,
-    w6: u32,
-    w7: u32,
 }
 
 // What is known of the next command: nothing yet, or its head.
@@ -136,144 +120,6 @@ fn fetch(ring: &[u32], v: View) -> Head
     fetch_far(ring, v)
 }
 
-// ---- what a turn finds, by a command's kind and the words of its head
-
-fn rect_first(h: Head) -> Rect
-    ensures { λ r. ⌜ r ≡ rectFirst h ⌝ }
-{
-    Rect {
-        x: h.w1,
-        y: h.w2,
-        w: h.w3,
-        h: h.w4,
-    }
-}
-
-fn rect_second(h: Head) -> Rect
-    ensures { λ r. ⌜ r ≡ rectSecond h ⌝ }
-{
-    Rect {
-        x: h.w2,
-        y: h.w3,
-        w: h.w4,
-        h: h.w5,
-    }
-}
-
-fn rect_third(h: Head) -> Rect
-    ensures { λ r. ⌜ r ≡ rectThird h ⌝ }
-{
-    Rect {
-        x: h.w3,
-        y: h.w4,
-        w: h.w5,
-        h: h.w6,
-    }
-}
-
-fn update_in(h: Head) -> Action
-    ensures { λ r. ⌜ r ≡ updateIn h ⌝ }
-{
-    let area = rect_first(h);
-    Action::Update(area)
-}
-
-fn fill_in(h: Head, rop: u32) -> Action
-    ensures { λ r. ⌜ r ≡ fillIn h rop ⌝ }
-{
-    let area = rect_second(h);
-    Action::Fill(area, h.w1, rop)
-}
-
-fn copy_in(h: Head, rop: u32) -> Action
-    ensures { λ r. ⌜ r ≡ copyIn h rop ⌝ }
-{
-    let from = Source { x: h.w1, y: h.w2 };
-    let area = rect_third(h);
-    Action::Copy(from, area, rop)
-}
-
-fn shape_in(h: Head) -> Shape
-    ensures { λ r. ⌜ r ≡ shapeIn h ⌝ }
-{
-    Shape {
-        id: h.w1,
-        hotx: h.w2,
-        hoty: h.w3,
-        w: h.w4,
-        h: h.w5,
-    }
-}
-
-// A command of fixed size, with the raster operation that it names. One function for each kind: a turn then has its tests at constants.
-fn turn_fixed(action: Action, rop: u32, size: u64, n: u64, carries: u64) -> Turn
-    ensures { λ r. ⌜ r ≡ fixedTurn action rop size n carries ⌝ }
-{
-    if n < size {
-        return Turn::Ends(End::Waiting);
-    }
-    if carries < size {
-        return Turn::Ends(End::Fault(Cause::TooLong));
-    }
-    if 15 < rop {
-        return Turn::Ends(End::Fault(Cause::BadOperand));
-    }
-    Turn::Executes(action, size)
-}
-
-fn turn_cursor(shape: Shape, n: u64, carries: u64) -> Turn
-    ensures { λ r. ⌜ r ≡ onHead 6 (DefineAlphaCursor shape) n carries ⌝ }
-{
-    if n < 6 {
-        return Turn::Ends(End::Waiting);
-    }
-    let good = cursor::shape_good(shape);
-    if !good {
-        return Turn::Ends(End::Fault(Cause::BadOperand));
-    }
-    let size = 6 + shape.w as u64 * shape.h as u64;
-    if carries < size {
-        return Turn::Ends(End::Fault(Cause::TooLong));
-    }
-    if n < size {
-        return Turn::Ends(End::Waiting);
-    }
-    Turn::Executes(Action::Define(shape), size)
-}
-
-fn turn_escape(space: u32, bytes: u32, n: u64, carries: u64) -> Turn
-    ensures { λ r. ⌜ r ≡ onHead 3 (Escape space bytes) n carries ⌝ }
-{
-    if n < 3 {
-        return Turn::Ends(End::Waiting);
-    }
-    let size = 3 + (bytes as u64 + 3) / 4;
-    if carries < size {
-        return Turn::Ends(End::Fault(Cause::TooLong));
-    }
-    if n < size {
-        return Turn::Ends(End::Waiting);
-    }
-    Turn::Executes(Action::Nothing, size)
-}
-
-fn turn_in(kind: Kind, h: Head, n: u64, carries: u64) -> Turn
-    ensures { λ r. ⌜ r ≡ turnHead kind h n carries ⌝ }
-{
-    match kind {
-        Kind::Update => turn_fixed(update_in(h), 3, 5, n, carries),
-        Kind::RectFill => turn_fixed(fill_in(h, 3), 3, 6, n, carries),
-        Kind::RectCopy => turn_fixed(copy_in(h, 3), 3, 7, n, carries),
-        Kind::RectRopFill => turn_fixed(fill_in(h, h.w6), h.w6, 7, n, carries),
-        Kind::RectRopCopy => turn_fixed(copy_in(h, h.w7), h.w7, 8, n, carries),
-        Kind::DefineAlphaCursor => turn_cursor(shape_in(h), n, carries),
-        Kind::UpdateVerbose => turn_fixed(update_in(h), 3, 6, n, carries),
-        Kind::Fence => turn_fixed(Action::Fence(h.w1), 3, 2, n, carries),
-        Kind::Escape => turn_escape(h.w1, h.w2, n, carries),
-        Kind::Foreign => Turn::Ends(End::Fault(Cause::NotOffered)),
-    }
-}
-
 // The head of the next command, fetched unless it was read already.
 fn head_of(ring: &[u32], v: View, next: Next) -> Head
     requires { ⌜ InView v (length (now ring)) ⌝ }
@@ -300,7 +146,7 @@ fn turn_at(ring: &[u32], v: View, next: Next) -> Turn
     let hi = v.hi;
     let carries = hi - lo - 1;
     let h = head_of(ring, v, next);
-    turn_in(command::kind_of(h.number), h, n as u64, carries as u64)
+    command::turn_in(command::kind_of(h.number), h, n as u64, carries as u64)
 }
 
 fn is_placed(g: Ring, words: usize) -> bool
@@ -455,63 +301,7 @@ fn place_of(v: View) -> Ring
     }
 }
 
-// ---- the run
-
 // ---- plain commands, one after the other
-
-// The words of a plain command: an update, a fill or copy that names no raster operation, a fence. 0 for any other.
-fn plain_size(kind: Kind) -> usize
-    ensures { λ r. ⌜ r ≡ plainSize kind ⌝ }
-{
-    match kind {
-        Kind::Update => 5,
-        Kind::RectFill => 6,
-        Kind::RectCopy => 7,
-        Kind::RectRopFill => 0,
-        Kind::RectRopCopy => 0,
-        Kind::DefineAlphaCursor => 0,
-        Kind::UpdateVerbose => 6,
-        Kind::Fence => 2,
-        Kind::Escape => 0,
-        Kind::Foreign => 0,
-    }
-}
-
-// The screen's part of a plain command.
-fn draw(kind: Kind, h: Head, framebuffer: &[u32], screen: &mut [u32], width: u32, rows: u32)
-    ensures { λ _. ⌜ now (screen .exit) ≡ screenAfter width rows (now (framebuffer .entry)) (plainAction kind h) (now (screen .entry)) ⌝ }
-{
-    match kind {
-        Kind::Update => raster::update(framebuffer, screen, width, rows, rect_first(h)),
-        Kind::RectFill => raster::fill(screen, width, rows, rect_second(h), h.w1, 3),
-        Kind::RectCopy => raster::copy(screen, width, rows, h.w1, h.w2, rect_third(h), 3),
-        Kind::RectRopFill => {}
-        Kind::RectRopCopy => {}
-        Kind::DefineAlphaCursor => {}
-        Kind::UpdateVerbose => raster::update(framebuffer, screen, width, rows, rect_first(h)),
-        Kind::Fence => {}
-        Kind::Escape => {}
-        Kind::Foreign => {}
-    }
-}
-
-// The fence after a plain command.
-fn fence_after(kind: Kind, h: Head, fence: u32) -> u32
-    ensures { λ r. ⌜ r ≡ fenceAfter kind h fence ⌝ }
-{
-    match kind {
-        Kind::Update => fence,
-        Kind::RectFill => fence,
-        Kind::RectCopy => fence,
-        Kind::RectRopFill => fence,
-        Kind::RectRopCopy => fence,
-        Kind::DefineAlphaCursor => fence,
-        Kind::UpdateVerbose => fence,
-        Kind::Fence => h.w1,
-        Kind::Escape => fence,
-        Kind::Foreign => fence,
-    }
-}
 
 // Whether the next eight words wait in a row.
 fn is_near(v: View) -> bool
@@ -566,7 +356,7 @@ fn plain_turns(
         let at = v.at;
         let h = fetch_near(ring, at);
         let kind = command::kind_of(h.number);
-        let size = plain_size(kind);
+        let size = command::plain_size(kind);
         if size == 0 {
             return Paused {
                 view: v,
@@ -575,8 +365,8 @@ fn plain_turns(
                 next: Next::Read(h),
             };
         }
-        draw(kind, h, framebuffer, screen, width, rows);
-        fence = fence_after(kind, h, fence);
+        effect::draw(kind, h, framebuffer, screen, width, rows);
+        fence = effect::fence_after(kind, h, fence);
         v = pass(v, size);
         ring[3] = (v.at * 4) as u32;
         count += 1;

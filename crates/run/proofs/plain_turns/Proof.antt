@@ -14,7 +14,7 @@ use Rattle.ring.specs.Waiting.{carried}
 use Rattle.command.specs.declared.Turn.the-variants.{Executes}
 use Rattle.command.specs.Words.{turnWords}
 use Rattle.run.specs.Turns.{InView, wordsIn, near}
-use Rattle.run.specs.Heads.{plainAction}
+use Rattle.command.specs.Heads.{plainAction}
 use Rattle.run.specs.Run.{scene, machine, stamped}
 use Rattle.run.specs.Going.{marked, Going}
 use Rattle.run.proofs.Heads.{head-near, near-says, plain-turn, plain-marks, plain-cursor}

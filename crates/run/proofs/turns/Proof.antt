@@ -6,8 +6,7 @@ use Prim.Native.Nat.{_-_}
 use native.Mathlib.Omega.{arith}
 use borrow.Author.Needs.{needs}
 use lib.ListN.{length, length-set}
-use Rattle.run.specs.Turns.{wordsIn}
-use Rattle.run.specs.Heads.{Known}
+use Rattle.run.specs.Turns.{wordsIn, Known}
 use Rattle.run.specs.Run.{scene, machine, stamped}
 use Rattle.run.specs.Going.{Going}
 use Rattle.run.proofs.Loop.{going-start, going-ends, going-spent, going-left, going-more, going-further, head-there, in-view, in-place, can-execute, can-start, can-pass, stop-small}

@@ -1,4 +1,4 @@
--- `run::turn_cursor` meets its contract.
+-- `command::turn_cursor` meets its contract.
 -- Assumes nothing.
 use Prim.Native.Nat.{_*_, _≤_}
 use native.Mathlib.Nat.{mul-le-mul}
@@ -6,10 +6,10 @@ use native.Mathlib.Omega.{arith}
 use mathlib.Core.Path.{sym, _∙_}
 use borrow.Author.Needs.{needs}
 use borrow.Author.Tests.{not-true, not-false, lt-leb, le-leb}
 use Rattle.command.specs.Commands.{sizeOf, headGood, operandsGood, actionOf, turnOn}
-use Rattle.run.specs.Heads.{onHead}
-use Rattle.run.proofs.turn_cursor.Statement.{statement}
-use Rattle.run.proofs.turn_cursor.Tie as tie
+use Rattle.command.specs.Heads.{onHead}
+use Rattle.command.proofs.turn_cursor.Statement.{statement}
+use Rattle.command.proofs.turn_cursor.Tie as tie
 
 pub turn-cursor-spec : {M : Type 1} → statement M
 unfolding onHead turnOn sizeOf headGood operandsGood actionOf

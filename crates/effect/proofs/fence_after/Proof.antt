@@ -1,9 +1,9 @@
--- `run::fence_after` meets its contract.
+-- `effect::fence_after` meets its contract.
 -- Assumes nothing.
 use borrow.Author.Needs.{needs}
-use Rattle.run.specs.Heads.{fenceAfter}
-use Rattle.run.proofs.fence_after.Statement.{statement}
-use Rattle.run.proofs.fence_after.Tie as tie
+use Rattle.effect.specs.Effects.{fenceAfter}
+use Rattle.effect.proofs.fence_after.Statement.{statement}
+use Rattle.effect.proofs.fence_after.Tie as tie
 
 pub fence-after-spec : {M : Type 1} → statement M
 unfolding fenceAfter

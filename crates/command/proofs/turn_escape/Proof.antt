@@ -1,11 +1,11 @@
--- `run::turn_escape` meets its contract.
+-- `command::turn_escape` meets its contract.
 -- Assumes nothing.
 use borrow.Author.Needs.{needs}
 use borrow.Author.Tests.{lt-leb, le-leb}
 use Rattle.command.specs.Commands.{sizeOf, headGood, operandsGood, actionOf, turnOn}
-use Rattle.run.specs.Heads.{onHead}
-use Rattle.run.proofs.turn_escape.Statement.{statement}
-use Rattle.run.proofs.turn_escape.Tie as tie
+use Rattle.command.specs.Heads.{onHead}
+use Rattle.command.proofs.turn_escape.Statement.{statement}
+use Rattle.command.proofs.turn_escape.Tie as tie
 
 pub turn-escape-spec : {M : Type 1} → statement M
 unfolding onHead turnOn sizeOf headGood operandsGood actionOf

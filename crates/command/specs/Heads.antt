@@ -1,4 +1,4 @@
--- A turn by the words of a command's head: document 01, "One command out of the ring". The words of a view come to these by `headIn`.
+-- A turn by the words of a command's head: document 01, "One command out of the ring". The words that wait come to these by `headIn`.
 use mathlib.Core.Path.{_≡_}
 use Prim.Native.Nat.{ℕ, _+_}
 use mathlib.Core.Bool.{cond}
@@ -9,19 +9,17 @@ use Rattle.order.specs.declared.End.the-variants.{Waiting, Fault}
 use Rattle.order.specs.declared.Cause.the-variants.{NotOffered, BadOperand, TooLong}
 use Rattle.geometry.specs.declared.Rect.{Rect}
 use Rattle.cursor.specs.declared.Shape.{Shape}
 use Rattle.command.specs.declared.Source.{Source}
 use Rattle.command.specs.declared.Kind.{Kind}
 use Rattle.command.specs.declared.Kind.the-variants as K
 use Rattle.command.specs.declared.Command.{Command}
 use Rattle.command.specs.declared.Command.the-variants as C
 use Rattle.command.specs.declared.Action.{Action}
 use Rattle.command.specs.declared.Action.the-variants as A
 use Rattle.command.specs.declared.Turn.{Turn}
 use Rattle.command.specs.declared.Turn.the-variants.{Ends, Executes}
 use Rattle.command.specs.Commands.{offered, headWords, turnOn}
-use Rattle.run.specs.declared.Head.{Head}
-use Rattle.run.specs.declared.Next.{Next}
-use Rattle.run.specs.declared.Next.the-variants.{Unread, Read}
+use Rattle.command.specs.declared.Head.{Head}
 
 -- The first eight words.
 abbrev pub headIn : List ℕ → Head
@@ -34,19 +32,6 @@ headIn w = record {
   w5 = getD w 5 0;
   w6 = getD w 6 0;
   w7 = getD w 7 0;
-}
-
--- Eight words from word at on.
-abbrev pub headFrom : List ℕ → ℕ → Head
-headFrom w at = record {
-  number = getD w at 0;
-  w1 = getD w (at + 1) 0;
-  w2 = getD w (at + 2) 0;
-  w3 = getD w (at + 3) 0;
-  w4 = getD w (at + 4) 0;
-  w5 = getD w (at + 5) 0;
-  w6 = getD w (at + 6) 0;
-  w7 = getD w (at + 7) 0;
 }
 
 -- What a head's words say, by the columns "Arguments": `decoded` over a head.
@@ -104,11 +89,6 @@ onHead head command n carries = cond (leb head n) (turnOn command n carries) (En
 unfoldable pub turnHead : Kind → Head → ℕ → ℕ → Turn
 turnHead kind h n carries = cond (offered kind) (onHead (headWords kind) (commandOf kind h) n carries) (Ends (Fault NotOffered))
 
--- What is known of the next command is what waits.
-abbrev pub Known : Next → List ℕ → Type 0
-Known Unread words = Unit {0}
-Known (Read h) words = h ≡ headIn words
-
 -- Plain commands, which only paint or set the fence and have nothing to be refused for: their sizes, 0 for any other,
 unfoldable pub plainSize : Kind → ℕ
 plainSize K.Update = 5
@@ -122,7 +102,7 @@ plainSize K.Fence = 2
 plainSize K.Escape = 0
 plainSize K.Foreign = 0
 
--- what they do,
+-- and what they do.
 unfoldable pub plainAction : Kind → Head → Action
 plainAction K.Update h = updateIn h
 plainAction K.RectFill h = fillIn h 3
@@ -134,16 +114,3 @@ plainAction K.UpdateVerbose h = updateIn h
 plainAction K.Fence h = A.Fence (h .w1)
 plainAction K.Escape h = A.Nothing
 plainAction K.Foreign h = A.Nothing
-
--- and the fence that they leave.
-unfoldable pub fenceAfter : Kind → Head → ℕ → ℕ
-fenceAfter K.Update h fence = fence
-fenceAfter K.RectFill h fence = fence
-fenceAfter K.RectCopy h fence = fence
-fenceAfter K.RectRopFill h fence = fence
-fenceAfter K.RectRopCopy h fence = fence
-fenceAfter K.DefineAlphaCursor h fence = fence
-fenceAfter K.UpdateVerbose h fence = fence
-fenceAfter K.Fence h fence = h .w1
-fenceAfter K.Escape h fence = fence
-fenceAfter K.Foreign h fence = fence

@@ -1,9 +1,9 @@
--- `run::turn_fixed` meets its contract.
+-- `command::turn_fixed` meets its contract.
 -- Assumes nothing.
 use borrow.Author.Tests.{lt-leb, le-leb}
-use Rattle.run.specs.Heads.{fixedTurn}
-use Rattle.run.proofs.turn_fixed.Statement.{statement}
-use Rattle.run.proofs.turn_fixed.Tie as tie
+use Rattle.command.specs.Heads.{fixedTurn}
+use Rattle.command.proofs.turn_fixed.Statement.{statement}
+use Rattle.command.proofs.turn_fixed.Tie as tie
 
 pub turn-fixed-spec : {M : Type 1} → statement M
 unfolding fixedTurn

@@ -1,12 +1,12 @@
--- `run::turn_in` meets its contract.
+-- `command::turn_in` meets its contract.
 -- Assumes nothing.
 use mathlib.Core.Path.{_∙_}
 use borrow.Author.Needs.{needs}
 use Rattle.command.specs.Commands.{headWords}
-use Rattle.run.specs.Heads.{commandOf, turnHead}
-use Rattle.run.proofs.Heads.{fixed-update, fixed-fill, fixed-copy, fixed-rop-fill, fixed-rop-copy, fixed-verbose, fixed-fence}
-use Rattle.run.proofs.turn_in.Statement.{statement}
-use Rattle.run.proofs.turn_in.Tie as tie
+use Rattle.command.specs.Heads.{commandOf, turnHead}
+use Rattle.command.proofs.Heads.{fixed-update, fixed-fill, fixed-copy, fixed-rop-fill, fixed-rop-copy, fixed-verbose, fixed-fence}
+use Rattle.command.proofs.turn_in.Statement.{statement}
+use Rattle.command.proofs.turn_in.Tie as tie
 
 pub turn-in-spec : {M : Type 1} → statement M
 unfolding turnHead headWords commandOf

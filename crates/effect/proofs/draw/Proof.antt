@@ -1,10 +1,10 @@
--- `run::draw` meets its contract.
+-- `effect::draw` meets its contract.
 -- Assumes nothing.
 use borrow.Author.Needs.{needs}
+use Rattle.command.specs.Heads.{plainAction}
 use Rattle.effect.specs.Effects.{screenAfter}
-use Rattle.run.specs.Heads.{plainAction}
-use Rattle.run.proofs.draw.Statement.{statement}
-use Rattle.run.proofs.draw.Tie as tie
+use Rattle.effect.proofs.draw.Statement.{statement}
+use Rattle.effect.proofs.draw.Tie as tie
 
 pub draw-spec : {M : Type 1} → statement M
 unfolding plainAction screenAfter
