@@ -29,8 +29,7 @@ use Rattle.effect.specs.Effects.{Machine, screenAfter, cursorAfter, marksAfter}
 use Rattle.effect.specs.Effects as E
 use Rattle.ring.specs.declared.Ring.{Ring}
 use Rattle.ring.specs.Acceptance.{nextOf}
-use Rattle.ring.specs.Waiting.{after, ahead, between, words, waiting}
-use Rattle.run.specs.Turns.{placed, nextGood}
+use Rattle.ring.specs.Waiting.{after, ahead, between, words, waiting, placed, nextGood}
 use Rattle.run.specs.Run.{Scene, turnIn, stamped, left, runWords, fitting, runIn}
 use Rattle.device.specs.declared.Condition.the-variants.{Running}
 use Rattle.device.specs.Device.{sizesGood, modeGood, ringGood, conditionGood, definedGood, made}

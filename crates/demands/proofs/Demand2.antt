@@ -22,7 +22,7 @@ use Rattle.order.specs.Straight.{causeNumber, Turn, ends, exec, whole, ending}
 use Rattle.order.specs.Claim.{answerNumber, verdict}
 use Rattle.ring.specs.declared.Ring.{Ring}
 use Rattle.ring.specs.Acceptance.{minOf, maxOf, nextOf, stopOf, usable}
-use Rattle.ring.specs.Waiting.{carried}
+use Rattle.ring.specs.Waiting.{carried, nextGood}
 use Rattle.ring.specs.Append.{movedOn, canAppend, Appended, appendOf}
 use Rattle.ring.proofs.AppendLaws.{append-refused}
 use Rattle.register.specs.declared.Register.{Register}
@@ -31,7 +31,6 @@ use Rattle.register.specs.Numbers.{registerOf}
 use Rattle.command.specs.declared.Action.{Action}
 use Rattle.command.proofs.Laws.{turn-none}
 use Rattle.effect.specs.Effects.{Machine, done}
-use Rattle.run.specs.Turns.{nextGood}
 use Rattle.run.specs.Run.{scene, runIn}
 use Rattle.device.specs.declared.Condition.the-variants.{Faulted}
 use Rattle.device.specs.declared.Device.{Device}

@@ -22,14 +22,14 @@ use Rattle.order.specs.Queue.{runs}
 use Rattle.order.proofs.Laws.{Laws, whole-exec, whole-ends, ending-exec, ending-ends}
 use Rattle.order.proofs.QueueLaws.{runs-ends, runs-exec}
 use Rattle.ring.specs.declared.Ring.{Ring}
-use Rattle.ring.specs.Waiting.{waiting, carried}
+use Rattle.ring.specs.Waiting.{waiting, carried, placed, nextGood}
 use Rattle.ring.specs.Acceptance.{usable, nextOf}
 use Rattle.ring.proofs.Laws.{Usable, usable-when, when-usable}
 use Rattle.register.specs.declared.Writable.{Writable}
 use Rattle.register.specs.declared.Writable.the-variants.{Id, Enable, Width, Height, ConfigDone, Sync, GuestId, CursorId, CursorX, CursorY, CursorOn}
 use Rattle.command.proofs.Laws.{command-laws}
 use Rattle.effect.specs.Effects.{Machine, done}
-use Rattle.run.specs.Turns.{viewOf, placed, nextGood}
+use Rattle.run.specs.Turns.{viewOf}
 use Rattle.run.specs.Run.{Scene, table, turnIn, left, runWords, lost, fitting, runIn}
 use Rattle.run.proofs.RunLaws.{run-lost, run-good}
 use Rattle.device.specs.declared.Condition.the-variants.{Idle, Running, Faulted}

@@ -22,7 +22,7 @@ use Rattle.order.specs.Queue.{Ran, runs}
 use Rattle.order.proofs.QueueLaws.{runs-ends, runs-exec}
 use Rattle.ring.specs.declared.Ring.{Ring}
 use Rattle.ring.specs.Acceptance.{nextOf}
-use Rattle.ring.specs.Waiting.{ahead, between, words, waiting, carried}
+use Rattle.ring.specs.Waiting.{ahead, between, words, waiting, carried, nextGood}
 use Rattle.ring.proofs.WaitingLaws.{InRing, ahead-in, between-carried, length-words}
 use Rattle.geometry.specs.declared.Rect.{Rect}
 use Rattle.geometry.specs.Pixels.{inRect, inArea}
@@ -40,7 +40,7 @@ use Rattle.command.specs.Words.{decoded, turnWords}
 use Rattle.command.proofs.Laws.{asTurn, turn-words}
 use Rattle.effect.specs.declared.Marks.{Marks}
 use Rattle.effect.specs.Effects.{Machine, screenAfter, cursorAfter, marksAfter, done}
-use Rattle.run.specs.Turns.{Ready, nextGood}
+use Rattle.run.specs.Turns.{Ready}
 use Rattle.run.specs.Run.{Scene, scene, machine, table, turnIn, stamped, Outcome, left, runWords, fitting, runIn}
 use Rattle.run.proofs.Laws.{next-says}
 use Rattle.run.proofs.Found.{Found, on-to, found}

@@ -22,13 +22,12 @@ use Rattle.order.proofs.Laws.{Laws}
 use Rattle.ring.specs.declared.Ring.{Ring}
 use Rattle.ring.specs.Acceptance.{minOf, maxOf, nextOf, stopOf, usable}
 use Rattle.ring.specs.Append.{canAppend, appendTo, appendOf}
-use Rattle.ring.specs.Waiting.{ahead, between, words, waiting, carried}
+use Rattle.ring.specs.Waiting.{ahead, between, words, waiting, carried, placed, nextGood}
 use Rattle.ring.proofs.Laws.{usable-when}
 use Rattle.ring.proofs.WaitingLaws.{by-test, length-waiting}
 use Rattle.ring.proofs.AppendLaws.{append-refused, length-append-to, append-keeps, append-waits, append-full}
 use Rattle.command.proofs.Laws.{command-laws}
 use Rattle.effect.specs.Effects.{Machine}
-use Rattle.run.specs.Turns.{placed, nextGood}
 use Rattle.run.specs.Run as R
 use Rattle.run.specs.Run.{Scene, scene, table, stamped, left, runWords, fitting, runIn}
 use Rattle.device.specs.declared.Device.{Device}

@@ -1,9 +1,10 @@
 -- The words that wait in a ring: document 01, "One command out of the ring". Places and numbers of words are in words of the ring memory, not in bytes: the ring is from lo to below hi.
-use mathlib.Core.Bool.{cond}
+use mathlib.Core.Bool.{Bool, cond, _&&_}
 use mathlib.Core.List.{List, [], _∷_}
-use Prim.Native.Nat.{ℕ, zero, suc, _+_, _-_}
+use Prim.Native.Nat.{ℕ, zero, suc, _+_, _-_, _/_, _%_}
 use lib.ListN.{getD}
-use lib.Dec.{ltb, leb}
+use lib.Dec.{eqb, ltb, leb}
+use Rattle.ring.specs.declared.Ring.{Ring}
 
 -- "Words wrap from MAX to MIN": the place after p
 unfoldable pub after : ℕ → ℕ → ℕ → ℕ
@@ -29,3 +30,11 @@ waiting ring lo hi stop next = words ring lo hi stop (between lo hi stop next)
 -- "The ring holds (MAX − MIN)/4 words and carries one fewer"
 abbrev pub carried : ℕ → ℕ → ℕ
 carried lo hi = hi - lo - 1
+
+-- The remembered ring lies in a memory of m words, and in the largest that a device can have, 2,097,152 bytes.
+unfoldable pub placed : Ring → ℕ → Bool
+placed g m = leb 4 (g .min) && (leb (g .min) (g .stop) && (ltb (g .stop) (g .max) && (leb (g .max) 524288 && leb (g .max) m)))
+
+-- "NEXT_CMD not a multiple of 4 or outside the ring: 13."
+unfoldable pub nextGood : Ring → ℕ → Bool
+nextGood g next = eqb (next % 4) 0 && (leb (g .min) (next / 4) && ltb (next / 4) (g .max))

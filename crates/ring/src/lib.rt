@@ -3,6 +3,7 @@ ghost use mathlib.Core.Path.{_≡_};
 ghost use Prim.Native.Nat.{_+_, _≤_};
 ghost use lib.ListN.{length};
 ghost use Rattle.ring.specs.Acceptance.{offsetUsable, boundsUsable, usable, accepted};
+ghost use Rattle.ring.specs.Waiting.{placed, nextGood};
 ghost use Rattle.ring.specs.Append.{movedOn, appendNumber, appended, appendOf};
 
 // The remembered ring, in words of the ring memory: from min to below max, the next command at stop.
@@ -97,6 +98,40 @@ pub fn accept(ring: &[u32]) -> Acceptance
         max: ring[1] / 4,
         stop: ring[3] / 4,
     })
+}
+
+// Whether a remembered ring lies in a memory of so many words, and in the largest that a device can have.
+// Rules out: a STOP equal to MAX; a ring over words 0 to 3.
+pub fn is_placed(g: Ring, words: usize) -> bool
+    ensures { λ r. ⌜ r ≡ placed g words ⌝ }
+{
+    if g.min < 4 {
+        return false;
+    }
+    if g.stop < g.min {
+        return false;
+    }
+    if g.max <= g.stop {
+        return false;
+    }
+    if 524288 < g.max {
+        return false;
+    }
+    g.max as usize <= words
+}
+
+// Whether a run can go by NEXT_CMD: a multiple of 4 inside the remembered ring.
+// Rules out: a NEXT_CMD equal to MAX.
+pub fn next_good(g: Ring, next: u32) -> bool
+    ensures { λ r. ⌜ r ≡ nextGood g next ⌝ }
+{
+    if next % 4 != 0 {
+        return false;
+    }
+    if next / 4 < g.min {
+        return false;
+    }
+    next / 4 < g.max
 }
 
 fn moved_on(min: u32, max: u32, offset: u32) -> u32

@@ -13,13 +13,14 @@ use Rattle.order.specs.declared.End.the-variants.{Waiting, Fault}
 use Rattle.order.specs.declared.Cause.the-variants.{NotOffered}
 use Rattle.ring.specs.declared.Ring.{Ring}
 use Rattle.ring.proofs.WaitingLaws.{length-words, between-carried}
+use Rattle.ring.specs.Waiting.{placed, nextGood}
 use Rattle.command.specs.declared.Kind.{Kind}
 use Rattle.command.specs.declared.Turn.the-variants.{Ends}
 use Rattle.command.specs.Commands.{kindOf, offered, headWords, turnOn}
 use Rattle.command.specs.Words.{decoded, turnWords}
 use Rattle.command.proofs.Laws.{turn-first}
 use Rattle.run.specs.declared.View.{View}
-use Rattle.run.specs.Turns.{InView, wordsIn, viewOf, placed, nextGood}
+use Rattle.run.specs.Turns.{InView, wordsIn, viewOf}
 
 -- the bounds of a remembered ring that lies in a memory of m words
 pub record Placed (g : Ring) (m : ℕ) : Type 0 where

@@ -18,11 +18,11 @@ use Rattle.order.specs.Queue.{runs}
 use Rattle.order.proofs.QueueLaws.{runs-ends}
 use Rattle.ring.specs.declared.Ring.{Ring}
 use Rattle.ring.specs.Acceptance.{nextOf}
-use Rattle.ring.specs.Waiting.{ahead, waiting, carried}
+use Rattle.ring.specs.Waiting.{ahead, waiting, carried, placed, nextGood}
 use Rattle.ring.proofs.WaitingLaws.{ahead-zero}
 use Rattle.effect.specs.Effects.{Machine}
 use Rattle.run.specs.declared.View.{View}
-use Rattle.run.specs.Turns.{InView, wordsIn, viewOf, placed, nextGood}
+use Rattle.run.specs.Turns.{InView, wordsIn, viewOf}
 use Rattle.run.specs.Run.{Scene, table, placeOf, turnIn, left, runWords, lost, fitting, runIn}
 use Rattle.run.proofs.Laws.{placed-says, next-says, in-view}
 

@@ -13,7 +13,7 @@ use Rattle.order.specs.Claim as Claim
 use Rattle.order.specs.Queue as Queue
 use Rattle.ring.specs.declared.Ring.{Ring}
 use Rattle.ring.specs.Acceptance.{nextOf}
-use Rattle.ring.specs.Waiting.{ahead, waiting, carried}
+use Rattle.ring.specs.Waiting.{ahead, waiting, carried, placed, nextGood}
 use Rattle.command.specs.Offered.{commands}
 use Rattle.effect.specs.declared.Marks.{Marks}
 use Rattle.effect.specs.Effects.{Machine, done}
@@ -21,7 +21,6 @@ use Rattle.run.specs.declared.View.{View}
 use Rattle.run.specs.declared.Answer.{Answer}
 use Rattle.run.specs.declared.Answer.the-variants.{Spent, Ended}
 use Rattle.run.specs.declared.Ran.{Ran}
-use Rattle.run.specs.Turns.{placed, nextGood}
 
 -- What a run does not change: the mode and the framebuffer.
 pub record Scene : Type 0 where

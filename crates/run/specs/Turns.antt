@@ -1,9 +1,9 @@
 -- The words that wait in a ring memory, as a run walks over them: document 01, "One command out of the ring".
 use mathlib.Core.Path.{_≡_}
-use Prim.Native.Nat.{ℕ, _+_, _-_, _*_, _/_, _%_, _≤_, _<_}
+use Prim.Native.Nat.{ℕ, _+_, _-_, _*_, _/_, _≤_, _<_}
 use mathlib.Core.Bool.{Bool, _&&_}
 use mathlib.Core.List.{List}
-use lib.Dec.{eqb, ltb, leb}
+use lib.Dec.{leb}
 use lib.ListN.{getD}
 use Rattle.ring.specs.declared.Ring.{Ring}
 use Rattle.ring.specs.Waiting.{ahead, between, words}
@@ -46,14 +46,6 @@ Ready (Copy from r rop) n = Unit {0}
 Ready (Define s) n = (6 + s .w * s .h ≤ n) × (s .w ≤ 64) × (s .h ≤ 64)
 Ready (Fence number) n = Unit {0}
 Ready Nothing n = Unit {0}
-
--- The remembered ring lies in a memory of m words, and in the largest that a device can have, 2,097,152 bytes.
-unfoldable pub placed : Ring → ℕ → Bool
-placed g m = leb 4 (g .min) && (leb (g .min) (g .stop) && (ltb (g .stop) (g .max) && (leb (g .max) 524288 && leb (g .max) m)))
-
--- "NEXT_CMD not a multiple of 4 or outside the ring: 13."
-unfoldable pub nextGood : Ring → ℕ → Bool
-nextGood g next = eqb (next % 4) 0 && (leb (g .min) (next / 4) && ltb (next / 4) (g .max))
 
 -- Eight words from word at on.
 abbrev pub headFrom : List ℕ → ℕ → Head

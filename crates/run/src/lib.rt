@@ -16,7 +16,7 @@ ghost use Rattle.ring.specs.Waiting.{between, words, carried};
 ghost use Rattle.command.specs.Words.{turnWords};
 ghost use Rattle.command.specs.Heads.{headIn};
 ghost use Rattle.effect.specs.Effects.{cursorAfter};
-ghost use Rattle.run.specs.Turns.{InView, wordsIn, near, passedIn, viewOf, Ready, placed, nextGood, headFrom, Known};
+ghost use Rattle.run.specs.Turns.{InView, wordsIn, near, passedIn, viewOf, Ready, headFrom, Known};
 ghost use Rattle.run.specs.Going.{PlainRun};
 ghost use Rattle.run.specs.Run.{ranTo, scene, machine, table, placeOf, outcome, runWords, fitting, lost, answerOf, runIn};
 
@@ -147,36 +147,6 @@ fn turn_at(ring: &[u32], v: View, next: Next) -> Turn
     let carries = hi - lo - 1;
     let h = head_of(ring, v, next);
     command::turn_in(command::kind_of(h.number), h, n as u64, carries as u64)
-}
-
-fn is_placed(g: Ring, words: usize) -> bool
-    ensures { λ r. ⌜ r ≡ placed g words ⌝ }
-{
-    if g.min < 4 {
-        return false;
-    }
-    if g.stop < g.min {
-        return false;
-    }
-    if g.max <= g.stop {
-        return false;
-    }
-    if 524288 < g.max {
-        return false;
-    }
-    g.max as usize <= words
-}
-
-fn next_good(g: Ring, next: u32) -> bool
-    ensures { λ r. ⌜ r ≡ nextGood g next ⌝ }
-{
-    if next % 4 != 0 {
-        return false;
-    }
-    if next / 4 < g.min {
-        return false;
-    }
-    next / 4 < g.max
 }
 
 // How many words lie from place p up to place q of a ring from lo to below hi.
@@ -452,7 +422,7 @@ fn turns(
 fn is_fitting(at: Ring, words: usize, image: usize) -> bool
     ensures { λ r. ⌜ r ≡ fitting at words image ⌝ }
 {
-    let there = is_placed(at, words);
+    let there = ring::is_placed(at, words);
     if !there {
         return false;
     }
@@ -494,7 +464,7 @@ pub fn run(
         };
     }
     let next = ring[2];
-    let good = next_good(at, next);
+    let good = ring::next_good(at, next);
     if !good {
         return Ran {
             answer: lost_answer(budget),

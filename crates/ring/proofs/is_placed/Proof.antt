@@ -1,10 +1,10 @@
--- `run::is_placed` meets its contract.
+-- `ring::is_placed` meets its contract.
 -- Assumes nothing.
 use borrow.Author.Needs.{needs}
 use borrow.Author.Tests.{le-leb, lt-leb, lt-ltb, le-ltb}
-use Rattle.run.specs.Turns.{placed}
-use Rattle.run.proofs.is_placed.Statement.{statement}
-use Rattle.run.proofs.is_placed.Tie as tie
+use Rattle.ring.specs.Waiting.{placed}
+use Rattle.ring.proofs.is_placed.Statement.{statement}
+use Rattle.ring.proofs.is_placed.Tie as tie
 
 pub is-placed-spec : {M : Type 1} → statement M
 unfolding placed

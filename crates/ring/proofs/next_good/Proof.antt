@@ -1,9 +1,9 @@
--- `run::next_good` meets its contract.
+-- `ring::next_good` meets its contract.
 -- Assumes nothing.
 use borrow.Author.Tests.{eq-eqb, ne-eqb, le-leb, lt-leb}
-use Rattle.run.specs.Turns.{nextGood}
-use Rattle.run.proofs.next_good.Statement.{statement}
-use Rattle.run.proofs.next_good.Tie as tie
+use Rattle.ring.specs.Waiting.{nextGood}
+use Rattle.ring.proofs.next_good.Statement.{statement}
+use Rattle.ring.proofs.next_good.Tie as tie
 
 pub next-good-spec : {M : Type 1} → statement M
 unfolding nextGood
