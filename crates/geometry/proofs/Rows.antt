@@ -4,14 +4,12 @@ use mathlib.Core.Path.{_≡_, refl, sym, _∙_}
 use mathlib.Core.Bool.{Bool, true, false, and-false}
 use mathlib.Core.Logic.{⊎-elim}
 use mathlib.Core.List.{List, []}
-use Prim.Native.Nat.{ℕ, _+_, _-_, _*_, _/_, _%_, _^_, _≤_, _<_}
+use Prim.Native.Nat.{ℕ, _+_, _-_, _*_, _/_, _%_, _≤_, _<_}
 use native.Mathlib.Nat.{add-mul, one-mul, mul-le-mul-right, mul-comm, div-eq-of-lt-le, div-add-mod'}
 use native.Mathlib.Omega.{arith}
 use lib.ListN.{length, getD}
 use lib.Dec.{eqb, ltb}
 use borrow.Author.Tests.{eqb-true, eqb-false, ltb-true, ltb-false}
-use mir.Val.{Fits}
-use mir.Syntax.{w32}
 use borrow.Rule.Slice.PartMut.{midOf, putMid}
 use Rattle.geometry.specs.Pixels.{placeOf, columnOf, rowOf, within, inRect, tabulate, painted}
 use Rattle.geometry.specs.Parts.{front, moved, next, doneFrom, Inside, Ordered, after}
@@ -150,13 +148,6 @@ row-moved s line line₀ row from to n f hf ht is-line is-row =
     let p : getD line (k - to) 0 ≡ getD s (k - to + from) 0 =
     rw (is-line, length-mid s [] from n hf, getD-front n (λ i. getD (midOf from n s) i 0) line₀ (k - to) (omega arith), getD-mid s [] from n hf (k - to) (omega arith), e) in
     rw (p, getD-mid-back s to n ht k t))
-
--- two operations that agree on words move alike
-pub moved-same : (from to n : ℕ) (f g : ℕ → ℕ → ℕ) (old : List ℕ) → ((k : ℕ) → Fits w32 (getD old k 0))
-    → ((s d : ℕ) → s < 2 ^ 32 → d < 2 ^ 32 → f s d ≡ g s d) → moved from to n f old ≡ moved from to n g old
-unfolding moved
-moved-same from to n f g old fits each =
-    painted-same (within to n) _ _ old (λ k h t. each (getD old (k - to + from) 0) (getD old k 0) (fits (k - to + from) .fits) (fits k .fits))
 
 -- the next k of the sources are none of the destinations done so far
 apart : (back : Bool) (from to n done k p : ℕ) → Ordered back from to → done + k ≤ n → within (from + next back n done k) k p ≡ true

@@ -1,4 +1,4 @@
--- Fills by their masks, and raster operation 3 on words: a plain fill and a plain copy.
+-- Fills and copies by their masks, and raster operation 3 on words: a plain fill and a plain copy.
 -- Assumes nothing.
 use mathlib.Core.Path.{_≡_, sym, ap, _∙_}
 use mathlib.Core.Bool.{Bool, true, _&&_}
@@ -10,8 +10,10 @@ use borrow.Author.Tests.{eqb-true}
 use Rattle.geometry.specs.declared.Rect.{Rect}
 use Rattle.geometry.proofs.Tests.{both}
 use Rattle.geometry.proofs.Painted.{painted-same}
-use Rattle.pixel.specs.Masks.{reducedOf}
-use Rattle.pixel.proofs.ByMasks.{reduced, nothing-kept}
+use Rattle.geometry.specs.Pixels.{inRect, painted}
+use Rattle.geometry.proofs.Rows.{copiedAt}
+use Rattle.pixel.specs.Masks.{reducedOf, masksOf, mergePixel}
+use Rattle.pixel.proofs.ByMasks.{reduced, nothing-kept, merged}
 use Rattle.pixel.proofs.Laws.{copy-stores-source}
 use Rattle.raster.specs.CutPainters.{storedIn, reducedCut, filledCut, movedCut, copiedCut}
 
@@ -45,3 +47,10 @@ pub plain-copied : (width sx sy : ℕ) (r : Rect) (old : List ℕ) → ((k : ℕ
     → movedCut width sx sy r old ≡ copiedCut width sx sy r 3 old
 unfolding movedCut copiedCut
 plain-copied width sx sy r old words = painted-same _ _ _ old (λ k _ _. sym (copy-stores-source _ (getD old k 0) (words _) (words k)))
+
+-- the masks of an operation give the operation
+pub masked-copied : (width sx sy : ℕ) (r : Rect) (rop : ℕ) (old : List ℕ) → ((k : ℕ) → getD old k 0 < 2 ^ 32)
+    → painted (inRect width (r .x) (r .y) (r .w) (r .h)) (copiedAt width sx sy (r .x) (r .y) (mergePixel (masksOf rop)) old) old
+    ≡ copiedCut width sx sy r rop old
+unfolding copiedCut
+masked-copied width sx sy r rop old words = painted-same _ _ _ old (λ k _ _. merged rop _ (getD old k 0) (words _) (words k))

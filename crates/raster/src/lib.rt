@@ -10,8 +10,7 @@ ghost use lib.Dec.{eqb};
 ghost use lib.ListN.{length, getD};
 ghost use Rattle.geometry.specs.Pixels.{tabulate};
 ghost use Rattle.geometry.specs.Parts.{front, moved, next, Inside, Ordered, after};
-ghost use Rattle.pixel.specs.RasterOperation.{rasterOp};
-ghost use Rattle.pixel.specs.Masks.{reducePixel, masksOf, mergePixel};
+ghost use Rattle.pixel.specs.Masks.{reducePixel, mergePixel};
 ghost use Rattle.raster.specs.Painters.{rowsFit, filled, updated, copied};
 ghost use Rattle.raster.specs.CutPainters.{storedIn, reducedCut, filledCut, updatedCut, movedCut, copiedCut};
 
@@ -387,17 +386,12 @@ fn merge_back(screen: &mut [u32], from: usize, to: usize, n: usize, m: Masks)
     pixels_back(screen, from, to, n - done, m);
 }
 
-// One row of a copy by the operation rop, whose masks are m.
-fn copy_row(screen: &mut [u32], from: usize, to: usize, n: usize, rop: u32, m: Masks, back: bool)
-    requires { ⌜ (n ≤ 2560) × (from + n ≤ length (now screen)) × (to + n ≤ length (now screen)) ⌝ }
-    requires { ⌜ m ≡ masksOf rop ⌝ }
+// One row of a copy by the masks' operation, of any length.
+fn copy_row(screen: &mut [u32], from: usize, to: usize, n: usize, m: Masks, back: bool)
+    requires { ⌜ (from + n ≤ length (now screen)) × (to + n ≤ length (now screen)) ⌝ }
     requires { ⌜ Ordered back from to ⌝ }
-    ensures { λ _. ⌜ now (screen .exit) ≡ moved from to n (rasterOp rop) (now (screen .entry)) ⌝ }
+    ensures { λ _. ⌜ now (screen .exit) ≡ moved from to n (mergePixel m) (now (screen .entry)) ⌝ }
 {
-    if rop == 3 {
-        move_row(screen, from, to, n);
-        return;
-    }
     if back {
         merge_back(screen, from, to, n, m);
         return;
@@ -455,7 +449,6 @@ fn move_cut(screen: &mut [u32], width: u32, sx: u32, sy: u32, area: Rect)
 fn merge_cut(screen: &mut [u32], width: u32, sx: u32, sy: u32, area: Rect, rop: u32)
     requires { ⌜ Inside width (area .x) (area .y) (area .w) (area .h) (length (now screen)) ⌝ }
     requires { ⌜ Inside width sx sy (area .w) (area .h) (length (now screen)) ⌝ }
-    requires { ⌜ width ≤ 2560 ⌝ }
     ensures { λ _. ⌜ now (screen .exit) ≡ copiedCut width sx sy area rop (now (screen .entry)) ⌝ }
 {
     let m = pixel::masks_of(rop);
@@ -472,7 +465,7 @@ fn merge_cut(screen: &mut [u32], width: u32, sx: u32, sy: u32, area: Rect, rop: 
         let j = next_row(back, h, done);
         let from = (from_y + j) * step + from_x;
         let to = (y + j) * step + x;
-        copy_row(screen, from, to, w, rop, m, back);
+        copy_row(screen, from, to, w, m, back);
         done += 1;
     }
 }
