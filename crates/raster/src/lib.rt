@@ -81,16 +81,24 @@ fn store_span(row: &mut [u32], at: usize, colour: u32)
     store_short(row, (4 - at % 4) % 4, colour);
 }
 
-// The rows of a fill that keeps nothing.
-fn store_rows(screen: &mut [u32], width: u32, area: Rect, colour: u32)
-    requires { ⌜ Inside width (area .x) (area .y) (area .w) (area .h) (length (now screen)) ⌝ }
-    ensures { λ _. ⌜ now (screen .exit) ≡ storedIn width (area .x) (area .y) (area .w) (area .h) colour (now (screen .entry)) ⌝ }
+// The rows of a fill that keeps nothing, by numbers: a Rect would be stored for the call.
+fn store_rows(
+    screen: &mut [u32],
+    width: u32,
+    left: u32,
+    top: u32,
+    wide: u32,
+    high: u32,
+    colour: u32,
+)
+    requires { ⌜ Inside width left top wide high (length (now screen)) ⌝ }
+    ensures { λ _. ⌜ now (screen .exit) ≡ storedIn width left top wide high colour (now (screen .entry)) ⌝ }
 {
     let step = width as usize;
-    let x = area.x as usize;
-    let y = area.y as usize;
-    let n = area.w as usize;
-    let h = area.h as usize;
+    let x = left as usize;
+    let y = top as usize;
+    let n = wide as usize;
+    let h = high as usize;
     let mut j = 0;
     while j < h {
         let at = (y + j) * step + x;
@@ -135,7 +143,7 @@ fn reduce_cut(screen: &mut [u32], width: u32, area: Rect, colour: u32, rop: u32)
 {
     let r = pixel::reduce(rop, colour);
     if r.keep == 0 {
-        store_rows(screen, width, area, r.flip);
+        store_rows(screen, width, area.x, area.y, area.w, area.h, r.flip);
         return;
     }
     reduce_rows(screen, width, area, r.keep, r.flip);
@@ -163,7 +171,7 @@ fn fill_cut(screen: &mut [u32], width: u32, area: Rect, colour: u32, rop: u32)
         store_pixel(screen, width, area.x, area.y, colour);
         return;
     }
-    store_rows(screen, width, area, colour);
+    store_rows(screen, width, area.x, area.y, area.w, area.h, colour);
 }
 
 // Each pixel of the rectangle in the rows gets the raster operation of the colour and what stood there. Any rectangle will do.
