@@ -5,15 +5,15 @@ use Prim.Native.Nat.{ℕ, _+_, _*_, _-_, _≤_}
 use native.Mathlib.Omega.{arith}
 use lib.ListN.{length, getD, length-take, length-drop}
 use borrow.Author.Needs.{needs}
-use Rattle.geometry.specs.Pixels.{inRect}
 use Rattle.raster.specs.CutPainters.{updatedCut}
-use Rattle.geometry.proofs.Painted.{Done, done-row, getD-mid-back}
-use Rattle.geometry.proofs.Rows.{row-room, rows-none, rows-grow, grow-right}
+use Rattle.geometry.proofs.Painted.{getD-mid-back}
+use Rattle.geometry.proofs.Rows.{row-room}
+use Rattle.geometry.proofs.Loops.{RowsDone, rows-begin, rows-turn, rows-end}
 use Rattle.raster.proofs.update_cut.Statement.{statement}
 use Rattle.raster.proofs.update_cut.Tie as tie
 
 abbrev Inv-loop : tie.InvT-loop
-Inv-loop framebuffer screen₀ width step x y w h j₀ screen j = (j ≤ h) × Done (inRect step x y w j) (λ k. getD framebuffer k 0) screen₀ screen
+Inv-loop framebuffer screen₀ width step x y w h j₀ screen j = RowsDone step x y w h (λ k. getD framebuffer k 0) screen₀ j screen
 
 abbrev μ-loop : tie.MeasureT-loop
 μ-loop framebuffer screen₀ width step x y w h j₀ screen j = h - j
@@ -31,9 +31,6 @@ room c = row-room (Start c .pre .0) (c .loop-test .taken)
 lent : (c : tie.In-loop Inv-loop μ-loop) → at c + Start c .args .area .w ≤ length (Start c .args .framebuffer .now)
 lent c = row-room (Start c .pre .1) (c .loop-test .taken)
 
-loop-holds : tie.Need-loop-holds Inv-loop μ-loop
-loop-holds c = (search needs, rows-none _ _ _ _ _ _)
-
 put-row-requires : tie.Need-put-row-requires Inv-loop μ-loop
 put-row-requires c κs = simp (length-take, length-drop) (omega (arith, room (c .before .before), lent (c .before .before)))
 
@@ -41,23 +38,18 @@ loop-again : tie.Need-loop-again Inv-loop μ-loop
 loop-again c =
     let turn = c .before .before .before .before .before in
     let a = Start turn .args in
-    let grows = rows-grow (a .width) (a .area .x) (a .area .w) _ _ _ _ _ (Start turn .pre .0 .across) (grow-right (a .area .y) (turn .before .loop .j) 1) in
-    let n : at turn + a .area .w - at turn ≡ a .area .w = omega arith in (
-      search needs,
-      rw n (done-row (turn .before .loop .inv .1) grows (room turn) _ _ (rw n at (c .before .before .put-row .ensures))
-          (λ k h t. getD-mid-back (a .framebuffer .now) (at turn) (a .area .w) (lent turn) k t)),
-    )
+    let n : at turn + a .area .w - at turn ≡ a .area .w = omega arith in
+    rows-turn (turn .before .loop .inv) (Start turn .pre .0) (turn .loop-test .taken) _ _ (c .before .before .put-row .ensures)
+    (λ k t stood. rw n (getD-mid-back (a .framebuffer .now) (at turn) (a .area .w) (lent turn) k t))
 
 returns : tie.Need-returns Inv-loop μ-loop
 unfolding updatedCut
-returns c =
-    let e : c .before .loop .j ≡ c .before .before .before .before .before .before .before .before .args .area .h = omega arith in
-    rw e at (c .before .loop .inv .1 .is)
+returns c = rows-end (c .before .loop .inv) (c .loop-test .left)
 
 pub update-cut-spec : {M : Type 1} → statement M
 update-cut-spec =
     tie.close
-    (tie.spec Inv-loop μ-loop (λ c. search needs) (λ c. search needs) (λ c. search needs) (λ c. search needs) loop-holds (λ c. search needs)
+    (tie.spec Inv-loop μ-loop (λ c. search needs) (λ c. search needs) (λ c. search needs) (λ c. search needs) (λ c. rows-begin) (λ c. search needs)
     (λ c. omega (arith, room c)) (λ c. omega (arith, room c)) (λ c. omega (arith, room c)) (λ c. omega (arith, room c)) (λ c. search needs)
     (λ c. search needs) (λ c. omega (arith, room c)) (λ c. omega (arith, lent (c .before))) (λ c. search needs) (λ c. search needs)
     (λ c. omega (arith, lent (c .before))) put-row-requires (λ c. search needs) (λ c. search needs) loop-again (λ c. search needs) returns)
