@@ -1,7 +1,7 @@
 -- Answer numbers of pictures: each comes exactly when document 01's rule says so, and a refusal changes nothing.
 -- Assumes nothing.
 use mathlib.Core.Path.{_≡_, refl}
-use mathlib.Core.Bool.{Bool, true, false, cond}
+use mathlib.Core.Bool.{Bool, true, false, cond, true≢false}
 use mathlib.Core.List.{List}
 use mathlib.Core.Logic.{_↔_}
 use Prim.Native.Nat.{ℕ, _*_, _<_}
@@ -9,7 +9,7 @@ use native.Mathlib.Omega.{arith}
 use lib.Dec.{leb}
 use lib.ListN.{length}
 use borrow.Author.Tests.{leb-false, lt-leb}
-use Rattle.geometry.proofs.Tests.{by-bool}
+use borrow.Table.Steps.{cases}
 use Rattle.device.specs.declared.Device.{Device}
 use Rattle.device.specs.Device.{pixelsOf, widthOf, heightOf, made}
 use Rattle.adapter.specs.Picture.{lengthsGood, pictureOf}
@@ -28,37 +28,34 @@ pub refused-picture : (d : Device) (screen image output : List ℕ) → (picture
     → pictureOf d screen image output .output ≡ output
 unfolding pictureOf
 refused-picture d screen image output =
-    by-bool (made d)
+    cases (made d)
     (λ m.
-    by-bool (lent d screen image output)
-    (λ l. by-bool (fits d) (λ t. simp (m, l, t) (λ n. absurd (n refl))) (λ f. simp (m, l, f) (λ n. refl)))
-    (λ u. by-bool (fits d) (λ t. simp (m, u, t) (λ n. refl)) (λ f. simp (m, u, f) (λ n. refl))))
+    cases (lent d screen image output)
+    (λ l. cases (fits d) (λ t. simp (m, l, t) (λ n. absurd (n refl))) (λ f. simp (m, l, f) (λ n. refl)))
+    (λ u. cases (fits d) (λ t. simp (m, u, t) (λ n. refl)) (λ f. simp (m, u, f) (λ n. refl))))
     (λ f. rw f (λ n. refl))
 
 -- ---- the answers of a picture
-
-clash : _≡_ {A = ℕ} 0 1 → ⊥
-clash z = omega arith
 
 abbrev pictureAnswer : Bool → Bool → ℕ
 pictureAnswer l f = cond l (cond f 0 24) 20
 
 is-20 : (l f : Bool) → (pictureAnswer l f ≡ 20) ↔ (l ≡ false)
-is-20 true true = (λ e. absurd (omega arith), λ e. absurd (clash cc))
-is-20 true false = (λ e. absurd (omega arith), λ e. absurd (clash cc))
+is-20 true true = (λ e. absurd (omega arith), λ e. absurd (true≢false cc))
+is-20 true false = (λ e. absurd (omega arith), λ e. absurd (true≢false cc))
 is-20 false f = (λ e. refl, λ e. refl)
 
 is-24 : (l f : Bool) → (pictureAnswer l f ≡ 24) ↔ ((l ≡ true) × (f ≡ false))
-is-24 true true = (λ e. absurd (omega arith), λ e. absurd (clash cc))
+is-24 true true = (λ e. absurd (omega arith), λ e. absurd (true≢false cc))
 is-24 true false = (λ e. (refl, refl), λ e. refl)
-is-24 false f = (λ e. absurd (omega arith), λ e. absurd (clash cc))
+is-24 false f = (λ e. absurd (omega arith), λ e. absurd (true≢false cc))
 
 module _ (d : Device) (screen image output : List ℕ) (m : made d ≡ true) where
   picture-number : pictureOf d screen image output .answer ≡ pictureAnswer (lent d screen image output) (fits d)
   unfolding pictureOf
   picture-number =
-      by-bool (lent d screen image output)
-      (λ l. by-bool (fits d) (λ t. rw (m, l, t)) (λ f. rw (m, l, f)))
+      cases (lent d screen image output)
+      (λ l. cases (fits d) (λ t. rw (m, l, t)) (λ f. rw (m, l, f)))
       (λ f. rw (m, f))
 
   -- a lent length

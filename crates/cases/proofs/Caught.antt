@@ -6,8 +6,8 @@ use mathlib.Core.List.{List, [], _∷_, _++_}
 use Prim.Native.Nat.{ℕ, zero, suc, _≤_, min}
 use native.Mathlib.Omega.{arith}
 use lib.ListN.{length, getD}
+use borrow.Table.Steps.{cases}
 use Rattle.geometry.specs.Pixels.{tabulate, painted, paintedIf}
-use Rattle.geometry.proofs.Tests.{by-bool}
 use Rattle.pixel.specs.Blend.{blendPixel}
 use Rattle.raster.specs.Painters.{rowsFit}
 use Rattle.cursor.specs.Plane.{shapeGood, covers, covered, cursorPixel}
@@ -96,7 +96,7 @@ runs-number {S} turn (suc b) a = go (next turn a) refl (λ n s. runs-number turn
 run-number : (s : Scene) (g : Ring) (budget : ℕ) (ring : List ℕ) (m : Machine) → answerNumber (runIn s g budget ring m .answer) ≤ 13
 unfolding runIn runWords left
 run-number s g budget ring m =
-    by-bool (fitting g (length ring) (length (m .cursor)))
+    cases (fitting g (length ring) (length (m .cursor)))
     (λ e. rw e (runs-number (turnIn s g (nextOf ring)) budget _))
     (λ e. rw e (omega arith))
 

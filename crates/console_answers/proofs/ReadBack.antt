@@ -10,6 +10,7 @@ use native.Mathlib.Omega.{arith}
 use lib.Dec.{ltb, leb}
 use lib.ListN.{length, length-append}
 use borrow.Author.Tests.{ltb-true, ltb-false, le-leb}
+use borrow.Table.Steps.{cases}
 use Rattle.console_lines.specs.Lines.{digits, decimal, numberOf}
 use Rattle.console_answers.specs.Text.{decimalIn, decimalOf}
 use Rattle.console_answers.proofs.Decimal.{decimal-short}
@@ -48,17 +49,13 @@ one-more l n r = record {
   some-digit = omega (arith, length-append l ((48 + n % 10) ∷ []));
 }
 
-by-test : {A : Type 0} (t : Bool) → (t ≡ true → A) → (t ≡ false → A) → A
-by-test true f g = f refl
-by-test false f g = g refl
-
 reads-in : (k n : ℕ) → n < 10 ^ suc k → Reads (decimalIn (suc k) n) n
 unfolding decimalIn
 reads-in zero n h =
-    let small : n < 10 = omega (arith, pow-suc 10 0) in by-test (ltb n 10) (λ t. rw t (one-digit n small)) (λ t. absurd (omega (arith, ltb-false n 10 t)))
+    let small : n < 10 = omega (arith, pow-suc 10 0) in cases (ltb n 10) (λ t. rw t (one-digit n small)) (λ t. absurd (omega (arith, ltb-false n 10 t)))
 reads-in (suc k) n h =
     let tens : n / 10 < 10 ^ suc k = omega (arith, pow-suc 10 (suc k)) in
-    by-test (ltb n 10) (λ t. rw t (one-digit n (ltb-true n 10 t))) (λ t. rw t (one-more (decimalIn (suc k) (n / 10)) n (reads-in k (n / 10) tens)))
+    cases (ltb n 10) (λ t. rw t (one-digit n (ltb-true n 10 t))) (λ t. rw t (one-more (decimalIn (suc k) (n / 10)) n (reads-in k (n / 10) tens)))
 
 pub read-back : (n : ℕ) → n ≤ 4294967295 → numberOf (decimalOf n) ≡ some n
 unfolding numberOf decimalOf

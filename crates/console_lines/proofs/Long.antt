@@ -1,7 +1,7 @@
 -- A line of more than 23 bytes is bad, so its first 32 bytes tell its request.
 -- Assumes nothing.
 use mathlib.Core.Path.{_≡_, refl, sym, _∙_}
-use mathlib.Core.Bool.{Bool, true, false, cond}
+use mathlib.Core.Bool.{Bool, true, false, cond, and-false}
 use mathlib.Core.List.{List, [], _∷_}
 use mathlib.Core.Option.{Option, none, some}
 use Prim.Native.Nat.{ℕ, suc, _+_, _≤_, _<_}
@@ -10,10 +10,11 @@ use lib.Dec.{eqb, leb}
 use lib.ListN.{length, take, length-take}
 use lib.Seq.{take-all}
 use borrow.Author.Tests.{leb-true, leb-false, lt-leb}
+use borrow.Table.Steps.{cases}
 use Rattle.console_lines.specs.declared.Request.{Request}
 use Rattle.console_lines.specs.declared.Request.the-variants.{Bad}
 use Rattle.console_lines.specs.Lines.{inFirst, fields, numberOf, withOne, withTwo, requestIn, requestOf, wordW, wordR, wordP, wordF, wordRun, wordS}
-use Rattle.console_lines.proofs.Words.{other-length, and-false}
+use Rattle.console_lines.proofs.Words.{other-length}
 
 -- The bytes of fields, each with the tab or the line's end behind it.
 abbrev spread : List (List ℕ) → ℕ
@@ -34,10 +35,6 @@ spread-fields [] = refl
 spread-fields (b ∷ bs) =
     let h = spread-fields bs in
     let some-byte : 1 ≤ spread (fields bs) = omega arith in omega (arith, spread-one (eqb b 9) b (fields bs) some-byte)
-
-by-test : {A : Type 0} (t : Bool) → (t ≡ true → A) → (t ≡ false → A) → A
-by-test true f g = f refl
-by-test false f g = g refl
 
 long-number : (f : List ℕ) → 10 < length f → numberOf f ≡ none
 unfolding numberOf
@@ -68,14 +65,14 @@ two-second word (some m) = refl
 long-one : (word a : List ℕ) → 22 < length word + length a → withOne word (numberOf a) ≡ Bad
 unfolding withOne
 long-one word a h =
-    by-test (leb (length a) 10) (λ t. let k : length a ≤ 10 = leb-true _ _ t in one-none word (numberOf a) (omega arith))
+    cases (leb (length a) 10) (λ t. let k : length a ≤ 10 = leb-true _ _ t in one-none word (numberOf a) (omega arith))
     (λ t. rw (long-number a (leb-false _ _ t)))
 
 long-two : (word a b : List ℕ) → 21 < length word + length a + length b → withTwo word (numberOf a) (numberOf b) ≡ Bad
 unfolding withTwo
 long-two word a b h =
-    by-test (leb (length a) 10)
-    (λ t. by-test (leb (length b) 10)
+    cases (leb (length a) 10)
+    (λ t. cases (leb (length b) 10)
     (λ s. let k : length a ≤ 10 = leb-true _ _ t in let m : length b ≤ 10 = leb-true _ _ s in two-none word (numberOf a) (numberOf b) (omega arith))
     (λ s. rw (long-number b (leb-false _ _ s)) (two-second word (numberOf a))))
     (λ t. rw (long-number a (leb-false _ _ t)))
@@ -95,6 +92,6 @@ long-line l h = long-fields (fields l) (omega (arith, spread-fields l))
 
 pub first-bytes : (l : List ℕ) → requestOf (take 32 l) ≡ requestOf l
 first-bytes l =
-    by-test (leb (length l) 32) (λ t. rw (take-all 32 l (leb-true _ _ t)))
+    cases (leb (length l) 32) (λ t. rw (take-all 32 l (leb-true _ _ t)))
     (λ t. let k : 32 < length l = leb-false _ _ t in
     long-line (take 32 l) (omega (arith, length-take 32 l)) ∙ sym (long-line l (omega arith)))

@@ -1,7 +1,7 @@
 -- A field that is read digit by digit.
 -- Assumes nothing.
 use mathlib.Core.Path.{_≡_, refl, sym}
-use mathlib.Core.Bool.{cond, _&&_}
+use mathlib.Core.Bool.{cond, _&&_, and-false}
 use mathlib.Core.List.{List}
 use mathlib.Core.Option.{none, some}
 use Prim.Native.Nat.{ℕ, suc, _+_, _-_, _*_, _^_, _≤_, _<_}
@@ -13,7 +13,6 @@ use lib.ListN.{length, getD, drop, drop-of-length-le}
 use lib.Seq.{drop-cons}
 use borrow.Author.Tests.{le-leb, lt-leb}
 use Rattle.console_lines.specs.Lines.{digits, decimal, numberOf}
-use Rattle.console_lines.proofs.Words.{and-false}
 
 -- The first i bytes of f are digits and make value.
 pub record Read (f : List ℕ) (value i : ℕ) : Type 0 where

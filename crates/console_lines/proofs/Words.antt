@@ -1,7 +1,7 @@
 -- A word is compared by its length and its bytes; a request goes by the letter of its word.
 -- Assumes nothing.
 use mathlib.Core.Path.{_≡_, refl, ap}
-use mathlib.Core.Bool.{Bool, true, false, cond, _&&_}
+use mathlib.Core.Bool.{false, cond, _&&_, and-true, and-false}
 use mathlib.Core.List.{List, [], _∷_}
 use mathlib.Core.Option.{some}
 use Prim.Native.Nat.{ℕ, suc, _<_}
@@ -11,14 +11,6 @@ use lib.ListN.{length, getD}
 use Rattle.console_lines.specs.declared.Request.{Request}
 use Rattle.console_lines.specs.declared.Request.the-variants.{Write, Read, Append, Pixel, Run, Screen, Bad}
 use Rattle.console_lines.specs.Lines.{numberOf, same, wordRun, placed, withOne, withTwo}
-
-and-true : (t : Bool) → t && true ≡ t
-and-true true = refl
-and-true false = refl
-
-pub and-false : (t : Bool) → t && false ≡ false
-and-false true = refl
-and-false false = refl
 
 pub other-length : (l m : List ℕ) → (length l ≡ length m → ⊥) → same l m ≡ false
 unfolding same

@@ -10,6 +10,8 @@ use lib.Dec.{eqb, leb}
 use lib.ListN.{length, getD, take}
 use lib.Seq.{take-suc}
 use borrow.Author.Tests.{eq-eqb, eqb-true, leb-true, leb-false, le-leb, lt-leb}
+use borrow.Table.Steps.{cases}
+use Rattle.geometry.proofs.Tests.{both}
 use Rattle.device.specs.declared.Making.{Making}
 use Rattle.device.specs.declared.Making.the-variants.{Made, Refused}
 use Rattle.device.specs.Device.{fresh, sizesGood}
@@ -34,21 +36,14 @@ pub record Feeding (s t : Session) (i chunk : ℕ) : Type 0 where
 
 -- ---- what fits
 
-first-true : (t u : Bool) → t && u ≡ true → t ≡ true
-first-true true u e = refl
-first-true false u e = e
-
-then-true : (t u : Bool) → t && u ≡ true → u ≡ true
-then-true true u e = e
-then-true false u e = absurd (let z : _≡_ {A = ℕ} 0 1 = cc in omega arith)
-
 pub fits-within : (s : Session) (n line out : ℕ) → fits s n line out ≡ true → Within s n line out
 unfolding fits
 fits-within s n line out e =
-    let rest = then-true (eqb line 32) _ e in record {
-      whole = eqb-true _ _ (first-true (eqb line 32) _ e);
-      held = leb-true _ _ (first-true (leb (s .held) 32) _ rest);
-      room = leb-true _ _ (then-true (leb (s .held) 32) _ rest);
+    let line-fits = both (eqb line 32) _ e in
+    let rest = both (leb (s .held) 32) _ (line-fits .1) in record {
+      whole = eqb-true _ _ (line-fits .0);
+      held = leb-true _ _ (rest .0);
+      room = leb-true _ _ (rest .1);
     }
 
 pub within-fits : (s : Session) (n line out : ℕ) → Within s n line out → fits s n line out ≡ true
@@ -58,13 +53,9 @@ within-fits s n line out w = rw (eq-eqb line 32 (w .whole), le-leb _ 32 (w .held
 pub within-none : {s : Session} {n line out : ℕ} → Within s n line out → Within s 0 line out
 within-none w = record { whole = w .whole; held = w .held; room = omega (arith, w .room) }
 
-by-test : {A : Type 0} (t : Bool) → (t ≡ true → A) → (t ≡ false → A) → A
-by-test true f g = f refl
-by-test false f g = g refl
-
 pub room-test : (n printed out : ℕ) → printed ≤ out → leb n ((out - printed) / 26) ≡ leb (printed + 26 * n) out
 room-test n printed out h =
-    by-test (leb n ((out - printed) / 26))
+    cases (leb n ((out - printed) / 26))
     (λ t. let k : n ≤ (out - printed) / 26 = leb-true _ _ t in
     let room : printed + 26 * n ≤ out = omega arith in t ∙ sym (le-leb _ _ room))
     (λ t. let k : (out - printed) / 26 < n = leb-false _ _ t in

@@ -9,6 +9,7 @@ use lib.Dec.{eqb, ltb, leb}
 use lib.ListN.{length, take, replicate, length-append}
 use lib.Seq.{length-take-le, take-all, take-append-le}
 use borrow.Author.Tests.{ltb-true, ltb-false, lt-ltb, le-ltb, le-leb}
+use borrow.Table.Steps.{cases}
 use Rattle.device.specs.Device.{fresh}
 use Rattle.console_lines.specs.Input.{linesOf}
 use Rattle.console_lines.specs.Lines.{inFirst, requestOf}
@@ -17,10 +18,6 @@ use Rattle.console_answers.specs.Text.{textOf}
 use Rattle.console_session.specs.Console.{Console, Performed, performed, ringStart, start}
 use Rattle.console_session.specs.Output.{answersTo, outputOf}
 use Rattle.console_session.specs.Session.{State, begun, told, answered, kept, fed, fedAll, ended, flushed, writtenOut, joined, stateOf}
-
-by-test : {A : Type 0} (t : Bool) → (t ≡ true → A) → (t ≡ false → A) → A
-by-test true f g = f refl
-by-test false f g = g refl
 
 -- ---- lines with held bytes in front
 
@@ -43,7 +40,7 @@ front-byte (d ∷ h) b ls = rw (front-byte h b ls)
 kept-first : (h : List ℕ) (b : ℕ) → kept (take 32 h) b ≡ take 32 (h ++ (b ∷ []))
 unfolding kept
 kept-first h b =
-    by-test (ltb (length h) 32)
+    cases (ltb (length h) 32)
     (λ t. let short : length h < 32 = ltb-true _ _ t in
     let all : length (h ++ (b ∷ [])) ≤ 32 = omega (arith, length-append h (b ∷ [])) in
     rw (take-all 32 h (omega arith), t, take-all 32 (h ++ (b ∷ [])) all))
@@ -89,7 +86,7 @@ meets : (bs : List ℕ) (c : Console) (h p : List ℕ) → ended (fedAll (at c (
 unfolding fedAll linesOf
 meets [] c h p = last-line c h p
 meets (b ∷ bs) c h p =
-    by-test (eqb b 10)
+    cases (eqb b 10)
     (λ t. rw (fed-newline c h p b t, lines-newline b bs h t)
     (meets bs (performed c (requestOf h) .console) [] (p ++ textOf (performed c (requestOf h) .answer)) ∙ first-answer c p h (linesOf bs)))
     (λ t. rw (fed-other c h p b t, lines-other b bs h t) (meets bs c (h ++ (b ∷ [])) p))

@@ -1,7 +1,7 @@
 -- Bounds on the size of differences of integers, which `omega` does not read by itself, and both sides of 0.
 -- Assumes nothing.
 use Prim.Native.Nat.{ℕ, zero, suc, _+_, _-_, _≤_, _<_, _^_}
-use mathlib.Core.Bool.{Bool, true, false, cond}
+use mathlib.Core.Bool.{Bool, true, false, cond, true≢false}
 use mathlib.Core.Path.{_≡_, refl}
 use native.Mathlib.Omega.{arith}
 use lib.Dec.{ltb, T}
@@ -46,7 +46,7 @@ before (negsuc b) t = (tt, refl, omega arith)
 
 pub beyond : (z : ℤ) → ltZ z (pos 0) ≡ false → T (nonNeg z) × (atOf z ≡ natAbs z) × (skipOf z ≡ 0)
 beyond (pos a) f = (tt, refl, refl)
-beyond (negsuc b) f = absurd (let e : _≡_ {A = ℕ} 0 1 = cc in omega arith)
+beyond (negsuc b) f = absurd (true≢false cc)
 
 pub size-of : (z : ℤ) → natAbs z ≤ mag z + 1
 size-of (pos a) = omega arith

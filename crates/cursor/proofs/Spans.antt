@@ -1,7 +1,7 @@
 -- From integers to natural numbers: what is covered is the rectangle of the two spans, and where the cursor's pixels then are.
 -- Assumes nothing.
 use mathlib.Core.Path.{_≡_, sym, ap, _∙_}
-use mathlib.Core.Bool.{Bool, true, false, not, _&&_, and-false}
+use mathlib.Core.Bool.{Bool, true, false, not, _&&_, and-false, true≢false}
 use mathlib.Core.Logic.{_⊎_, inl, inr, ⊎-elim}
 use mathlib.Core.List.{List, []}
 use Prim.Native.Nat.{ℕ, zero, suc, _+_, _-_, _*_, _/_, _%_, _≤_, _<_, min}
@@ -13,9 +13,10 @@ use lib.Signed.{ltZ}
 use lib.ListN.{length, getD}
 use borrow.Author.Tests.{ltb-true, ltb-false, leb-true, leb-false, lt-ltb, le-ltb, not-true, not-false}
 use borrow.Rule.Slice.PartMut.{midOf}
+use borrow.Table.Steps.{cases}
 use Rattle.geometry.specs.Pixels.{placeOf, within, inRect}
 use Rattle.geometry.specs.Parts.{Inside}
-use Rattle.geometry.proofs.Tests.{by-bool, both, same-bool, within-in, within-yes, within-past}
+use Rattle.geometry.proofs.Tests.{both, same-bool, within-in, within-yes, within-past}
 use Rattle.geometry.proofs.Painted.{getD-mid, painted-same, painted-region, painted-if, refused-if}
 use Rattle.geometry.proofs.Rows.{inside, row-in}
 use Rattle.pixel.specs.Blend.{blendPixel}
@@ -31,7 +32,7 @@ offset-cases : {P : Type 0} (z : ℤ) (k : ℕ) → (k < atOf z → ltZ (offsetA
     → (atOf z ≤ k → offsetAt z k ≡ pos (k - atOf z + skipOf z) → P) → P
 offset-cases (pos zero) k out there = there (omega arith) (ap pos (omega arith))
 offset-cases (pos (suc a)) k out there =
-    by-bool (ltb k (suc a)) (λ t. out (ltb-true k (suc a) t) (rw t)) (λ f. there (ltb-false k (suc a) f) (rw f (ap pos (omega arith))))
+    cases (ltb k (suc a)) (λ t. out (ltb-true k (suc a) t) (rw t)) (λ f. there (ltb-false k (suc a) f) (rw f (ap pos (omega arith))))
 offset-cases (negsuc b) k out there = there (omega arith) (ap pos (omega arith))
 
 -- the cursor covers k: k is not before the corner, and its column there is one of the cursor's
@@ -44,7 +45,7 @@ over : (z : ℤ) (size k : ℕ) → covers z size k ≡ true → Over z size k
 unfolding covers
 over z size k t =
     offset-cases z k
-    (λ l e. absurd (let u = rw e at t in let o : _≡_ {A = ℕ} 0 1 = cc in omega arith))
+    (λ l e. absurd (let u = rw e at t in true≢false cc))
     (λ g e.
     let b = rw (e, le-ltb (k - atOf z + skipOf z) 0 (omega arith)) at t in
     record { from = g; ends = ltb-true (k - atOf z + skipOf z) size b; offset = e })
@@ -65,9 +66,9 @@ span-cases : (z : ℤ) (size limit : ℕ) (P : Span → Type 0) → ((limit ≤ 
     → (atOf z < limit → skipOf z < size → P (span (atOf z) (skipOf z) (min (size - skipOf z) (limit - atOf z)))) → P (spanFrom z size limit)
 unfolding spanFrom
 span-cases z size limit P none some =
-    by-bool (leb limit (atOf z))
+    cases (leb limit (atOf z))
     (λ t. rw t (none (inl (leb-true limit (atOf z) t))))
-    (λ f. rw f (by-bool (leb size (skipOf z))
+    (λ f. rw f (cases (leb size (skipOf z))
     (λ t. rw t (none (inr (leb-true size (skipOf z) t))))
     (λ g. rw g (some (leb-false limit (atOf z) f) (leb-false size (skipOf z) g)))))
 
@@ -82,7 +83,7 @@ module _ (z : ℤ) (size limit k : ℕ) (below : k < limit) where
   pub covers-span : covers z size k ≡ within (spanFrom z size limit .at) (spanFrom z size limit .n) k
   covers-span =
       span-cases z size limit (λ s. covers z size k ≡ within (s .at) (s .n) k)
-      (λ o. by-bool (covers z size k)
+      (λ o. cases (covers z size k)
       (λ t. let v = over z size k t in absurd (⊎-elim (λ (e : limit ≤ atOf z). omega arith) (λ (e : size ≤ skipOf z). omega arith) o))
       (λ f. f ∙ sym (within-past 0 0 k (omega arith))))
       (λ a b. same-bool _ _
@@ -142,7 +143,7 @@ module _ (width rows : ℕ) (s : Shape) (x y : ℕ) (image old : List ℕ) where
   pub covered-rect : 0 < width → (k : ℕ) → covered width rows s x y k ≡ inRect width (columns .at) (lines .at) (columns .n) (lines .n) k
   unfolding covered inRect
   covered-rect wide k =
-      by-bool (ltb (k / width) rows)
+      cases (ltb (k / width) rows)
       (λ t. rw (
         t,
         covers-span (cornerOf x (s .hotx)) (s .w) width (k % width) (mod-lt k wide),

@@ -1,6 +1,6 @@
 -- Laws of a device's words.
 use mathlib.Core.Path.{_≡_, refl, sym, ap, _∙_}
-use mathlib.Core.Bool.{Bool, true, false, cond, _&&_}
+use mathlib.Core.Bool.{Bool, true, false, cond, _&&_, and-true, and-assoc}
 use mathlib.Core.List.{List, [], _∷_, _++_, append-nil}
 use Prim.Native.Nat.{ℕ, zero, suc, _+_, _≤_, _<_}
 use lib.Dec.{eqb}
@@ -13,14 +13,6 @@ use Rattle.device.specs.declared.Device.{Device}
 use Rattle.device.specs.Device.{made}
 use Rattle.device_words.specs.declared.Held.the-variants.{Device as Holds, Nothing}
 use Rattle.device_words.specs.Words.{wordsOf, deviceFrom, same, heldIn}
-
-and-assoc : (a b c : Bool) → (a && b) && c ≡ a && (b && c)
-and-assoc true b c = refl
-and-assoc false b c = refl
-
-and-true : (b : Bool) → b && true ≡ b
-and-true true = refl
-and-true false = refl
 
 -- One word more agrees exactly if all before it do and it does.
 same-snoc : (a w : List ℕ) (i : ℕ) → i < length a → i < length w

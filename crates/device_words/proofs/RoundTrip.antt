@@ -1,13 +1,13 @@
 -- Reading back what was written gives the same device, and lent words that hold a device are exactly its words.
 use mathlib.Core.Path.{_≡_, refl, sym, ap}
-use mathlib.Core.Bool.{Bool, true, false, _&&_, false≢true}
+use mathlib.Core.Bool.{Bool, true, false, false≢true, true≢false}
 use mathlib.Core.List.{List, [], _∷_}
 use Prim.Native.Nat.{ℕ}
 use lib.Dec.{eqb}
 use lib.ListN.{length}
-use native.Mathlib.Omega.{arith}
 use borrow.Author.Tests.{eq-eqb, eqb-true}
-use Rattle.geometry.proofs.Tests.{by-bool, both}
+use borrow.Table.Steps.{cases}
+use Rattle.geometry.proofs.Tests.{both}
 use Rattle.cursor.specs.declared.Defined.{Defined}
 use Rattle.cursor.specs.declared.Defined.the-variants.{Undefined, Cursor}
 use Rattle.order.specs.declared.Cause.the-variants.{NotOffered, BadOperand, TooLong, BadNext}
@@ -71,14 +71,14 @@ pub record HeldBy (w : List ℕ) (d : Device) : Type 0 where
   pub its-words : wordsOf d ≡ w
 
 none-held : (d : Device) {P : Type 0} → _≡_ {A = Held} Nothing (Holds d) → P
-none-held d e = let z : _≡_ {A = ℕ} 0 1 = cc in absurd (omega arith)
+none-held d e = absurd (true≢false cc)
 
 pub held-words : (w : List ℕ) (d : Device) → heldIn w ≡ Holds d → HeldBy w d
 unfolding heldIn
 held-words w d e =
-    by-bool (eqb (length w) 64)
-    (λ n. by-bool (made (deviceFrom w))
-    (λ m. by-bool (same (wordsOf (deviceFrom w)) w)
+    cases (eqb (length w) 64)
+    (λ n. cases (made (deviceFrom w))
+    (λ m. cases (same (wordsOf (deviceFrom w)) w)
     (λ k.
     let h : Holds (deviceFrom w) ≡ Holds d = rw (n, m, k) at e in
     let f : deviceFrom w ≡ d = cc in

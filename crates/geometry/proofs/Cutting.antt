@@ -1,18 +1,19 @@
 -- What a cut means for pixels: the rectangle that is left has exactly the pixels that lie inside, and nothing is left exactly where there is none.
 -- Assumes nothing.
 use mathlib.Core.Path.{_≡_, refl}
-use mathlib.Core.Bool.{true, false}
+use mathlib.Core.Bool.{true, false, true≢false}
 use mathlib.Core.Logic.{_⊎_, inl, inr, ⊎-elim}
 use Prim.Native.Nat.{ℕ, _+_, _-_, _/_, _%_, _≤_, _<_}
 use native.Mathlib.Nat.{mod-lt}
 use native.Mathlib.Omega.{arith}
 use lib.Dec.{eqb, ltb}
 use borrow.Author.Tests.{eqb-true, eqb-false, ne-eqb, ltb-true, lt-ltb}
+use borrow.Table.Steps.{cases}
 use Rattle.geometry.specs.declared.Rect.{Rect}
 use Rattle.geometry.specs.declared.Cut.the-variants.{Rectangle, Nothing}
 use Rattle.geometry.specs.Rectangle.{spanBelow, cutOf, cutTo, cutCopy}
 use Rattle.geometry.specs.Pixels.{within, inRect, inArea}
-use Rattle.geometry.proofs.Tests.{by-bool, both, and-yes, same-bool, within-in, within-yes}
+use Rattle.geometry.proofs.Tests.{both, and-yes, same-bool, within-in, within-yes}
 
 abbrev pub rect : ℕ → ℕ → ℕ → ℕ → Rect
 rect x y w h = record { x = x; y = y; w = w; h = h }
@@ -22,9 +23,9 @@ rect x y w h = record { x = x; y = y; w = w; h = h }
 pub cut-cases : {P : Type 0} (x y w h : ℕ) → (cutOf x y w h ≡ Nothing → (w ≡ 0) ⊎ (h ≡ 0) → P)
     → (cutOf x y w h ≡ Rectangle (rect x y w h) → 0 < w → 0 < h → P) → P
 cut-cases x y w h none some =
-    by-bool (eqb w 0)
+    cases (eqb w 0)
     (λ t. none (rw t) (inl (eqb-true w 0 t)))
-    (λ f. by-bool (eqb h 0)
+    (λ f. cases (eqb h 0)
     (λ t. none (rw (f, t)) (inr (eqb-true h 0 t)))
     (λ g.
     let u = eqb-false w 0 f in
@@ -33,10 +34,10 @@ cut-cases x y w h none some =
 
 pub cut-rectangle : (x y w h : ℕ) (a : Rect) → cutOf x y w h ≡ Rectangle a → (a ≡ rect x y w h) × (0 < w) × (0 < h)
 cut-rectangle x y w h a e =
-    cut-cases x y w h (λ n o. let z : _≡_ {A = ℕ} 0 1 = cc in absurd (omega arith)) (λ r p q. (cc, p, q))
+    cut-cases x y w h (λ n o. absurd (true≢false cc)) (λ r p q. (cc, p, q))
 
 pub cut-nothing : (x y w h : ℕ) → cutOf x y w h ≡ Nothing → (w ≡ 0) ⊎ (h ≡ 0)
-cut-nothing x y w h e = cut-cases x y w h (λ n o. o) (λ r p q. let z : _≡_ {A = ℕ} 0 1 = cc in absurd (omega arith))
+cut-nothing x y w h e = cut-cases x y w h (λ n o. o) (λ r p q. absurd (true≢false cc))
 
 cut-some : (x y w h : ℕ) → 0 < w → 0 < h → cutOf x y w h ≡ Rectangle (rect x y w h)
 cut-some x y w h p q = rw (ne-eqb w 0 (λ e. omega arith), ne-eqb h 0 (λ e. omega arith))
@@ -64,7 +65,7 @@ rect-in width x y w h k i = and-yes _ _ (within-yes x w (k % width) (i .left) (i
 
 pub in-none : (width x y w h k : ℕ) → (w ≡ 0) ⊎ (h ≡ 0) → inRect width x y w h k ≡ false
 in-none width x y w h k o =
-    by-bool (inRect width x y w h k)
+    cases (inRect width x y w h k)
     (λ t. let i = in-rect width x y w h k t in ⊎-elim (λ (e : w ≡ 0). absurd (omega arith)) (λ (e : h ≡ 0). absurd (omega arith)) o)
     (λ f. f)
 
@@ -104,7 +105,7 @@ nothing-left r width rows =
     cut-cases (r .x) (r .y) w h
     (λ n o. (λ _ px py p. ⊎-elim (λ (e : w ≡ 0). omega arith) (λ (e : h ≡ 0). omega arith) o, λ _. n))
     (λ e p q. (
-      λ n. let z : _≡_ {A = ℕ} 0 1 = cc in absurd (omega arith),
+      λ n. absurd (true≢false cc),
       λ no. absurd (no (r .x) (r .y) (record {
         has = record { left = omega arith; right = omega arith; top = omega arith; bottom = omega arith };
         across = omega arith;
@@ -179,6 +180,6 @@ copy-nothing-left sx sy r width rows =
     cut-cases (r .x) (r .y) w h
     (λ n o. (λ _ i j m. ⊎-elim (λ (e : w ≡ 0). omega arith) (λ (e : h ≡ 0). omega arith) o, λ _. n))
     (λ e p q. (
-      λ n. let z : _≡_ {A = ℕ} 0 1 = cc in absurd (omega arith),
+      λ n. absurd (true≢false cc),
       λ no. absurd (no 0 0 (record { wide = omega arith; high = omega arith; across = omega arith; down = omega arith; source-across = omega arith; source-down = omega arith })),
     ))

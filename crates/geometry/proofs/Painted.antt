@@ -9,8 +9,9 @@ use native.Mathlib.Omega.{arith}
 use lib.ListN.{length, getD, take, length-take, length-drop, List·getD-append}
 use lib.Seq.{getD-drop, getD-take, getD-append-add, length-take-le}
 use borrow.Rule.Slice.PartMut.{midOf, postOf, putMid, same-len-mid}
+use borrow.Table.Steps.{cases}
 use Rattle.geometry.specs.Pixels.{within, tabulate, painted, paintedIf}
-use Rattle.geometry.proofs.Tests.{by-bool, within-in, within-out}
+use Rattle.geometry.proofs.Tests.{within-in, within-out}
 use Rattle.geometry.proofs.Tabulate.{length-tabulate, getD-tabulate, is-tabulate}
 
 pub length-painted : (inside : ℕ → Bool) (new : ℕ → ℕ) (old : List ℕ) → length (painted inside new old) ≡ length old
@@ -30,7 +31,7 @@ is-painted inside new old l e h = is-tabulate l (length old) _ e h
 pub painted-same : (R : ℕ → Bool) (f g : ℕ → ℕ) (old : List ℕ) → ((k : ℕ) → k < length old → R k ≡ true → f k ≡ g k) → painted R f old ≡ painted R g old
 painted-same R f g old each =
     is-painted R g old (painted R f old) (length-painted R f old)
-    (λ k h. getD-painted R f old k h ∙ by-bool (R k) (λ t. rw (t, each k h t)) (λ e. rw e))
+    (λ k h. getD-painted R f old k h ∙ cases (R k) (λ t. rw (t, each k h t)) (λ e. rw e))
 
 pub painted-region : (R Q : ℕ → Bool) (new : ℕ → ℕ) (old : List ℕ) → ((k : ℕ) → k < length old → R k ≡ Q k) → painted R new old ≡ painted Q new old
 painted-region R Q new old each = is-painted Q new old (painted R new old) (length-painted R new old) (λ k h. getD-painted R new old k h ∙ rw (each k h))
@@ -50,15 +51,15 @@ module _ (fits : Bool) (R : ℕ → Bool) (new : ℕ → ℕ) (old : List ℕ) w
   refused-if f = rw f
 
   pub length-painted-if : length (paintedIf fits R new old) ≡ length old
-  length-painted-if = by-bool fits (λ t. rw (painted-if t) (length-painted R new old)) (λ f. rw (refused-if f))
+  length-painted-if = cases fits (λ t. rw (painted-if t) (length-painted R new old)) (λ f. rw (refused-if f))
 
   pub outside-if : (k : ℕ) → k < length old → R k ≡ false → getD (paintedIf fits R new old) k 0 ≡ getD old k 0
-  outside-if k h off = by-bool fits (λ t. rw (painted-if t) (getD-painted R new old k h ∙ rw off)) (λ f. rw (refused-if f))
+  outside-if k h off = cases fits (λ t. rw (painted-if t) (getD-painted R new old k h ∙ rw off)) (λ f. rw (refused-if f))
 
   pub same-if : ((k : ℕ) → k < length old → new k ≡ getD old k 0) → paintedIf fits R new old ≡ old
   same-if each =
-      by-bool fits
-      (λ t. painted-if t ∙ sym (is-painted R new old old refl (λ k h. rw (each k h) (by-bool (R k) (λ e. rw e) (λ e. rw e)))))
+      cases fits
+      (λ t. painted-if t ∙ sym (is-painted R new old old refl (λ k h. rw (each k h) (cases (R k) (λ e. rw e) (λ e. rw e)))))
       refused-if
 
 -- ---- a part of a slice that was lent and is back: `midOf a n l` is the part, and `putMid a n l row` the slice with row in its place
@@ -112,7 +113,7 @@ put-painted l row a n g fit is =
     let is-n : row ≡ tabulate n g = rw (length-mid l row a n fit) at is in
     let len : length row ≡ n = ap length is-n ∙ length-tabulate n g in
     is-painted (within a n) _ l (putMid a n l row) (same-len-mid a n l row (len ∙ sym (length-mid l row a n fit)))
-    (λ k h. by-bool (within a n k)
+    (λ k h. cases (within a n k)
     (λ t.
     let b = within-in a n k t in
     getD-put-in l row a n fit len k (b .0) (b .1) ∙ rw (is-n, getD-tabulate n g (k - a) (omega arith), t))
@@ -136,7 +137,7 @@ module _ {R : ℕ → Bool} {new : ℕ → ℕ} {old l : List ℕ} (done : Done 
       record {
         same = same;
         is = is-painted Q new old next same (λ k h. rw (is, getD-painted (within a n) new′ l k (omega (arith, done .same)))
-            (by-bool (within a n k)
+            (cases (within a n k)
             (λ t. rw (t, each k h t, grows .here k t))
             (λ f. rw (f, done .is, getD-painted R new old k h, grows .rest k f))));
       }

@@ -1,7 +1,7 @@
 -- The rows of a rectangle, a row in pieces, and copies of both, from the front or from the back.
 -- Assumes nothing.
 use mathlib.Core.Path.{_≡_, refl, sym, _∙_}
-use mathlib.Core.Bool.{Bool, true, false, and-false}
+use mathlib.Core.Bool.{Bool, true, false, and-false, true≢false}
 use mathlib.Core.Logic.{⊎-elim}
 use mathlib.Core.List.{List, []}
 use Prim.Native.Nat.{ℕ, _+_, _-_, _*_, _/_, _%_, _≤_, _<_}
@@ -11,9 +11,10 @@ use lib.ListN.{length, getD}
 use lib.Dec.{eqb, ltb}
 use borrow.Author.Tests.{eqb-true, eqb-false, ltb-true, ltb-false}
 use borrow.Rule.Slice.PartMut.{midOf, putMid}
+use borrow.Table.Steps.{cases}
 use Rattle.geometry.specs.Pixels.{placeOf, columnOf, rowOf, within, inRect, tabulate, painted}
 use Rattle.geometry.specs.Parts.{front, moved, next, doneFrom, Inside, Ordered, after}
-use Rattle.geometry.proofs.Tests.{by-bool, same-bool, within-in, within-yes, within-before, within-past, within-out}
+use Rattle.geometry.proofs.Tests.{same-bool, within-in, within-yes, within-before, within-past, within-out}
 use Rattle.geometry.proofs.Tabulate.{getD-front}
 use Rattle.geometry.proofs.Painted.{painted-same, none-painted, length-mid, getD-mid, getD-mid-back, put-painted, Adds, Done, done-off, done-more}
 
@@ -60,8 +61,7 @@ module _ (width x w r k : ℕ) (across : x + w ≤ width) where
       let b = within-in x w (k % width) m in
       let d : r * width + k % width ≡ k = rw q at (div-add-mod' k width) in
       let z : within (r * width + x) w k ≡ true = within-yes (r * width + x) w k (omega arith) (omega arith) in
-      let o : _≡_ {A = ℕ} 0 1 = cc in
-      omega arith
+      true≢false cc
 
 -- ---- growth: k more behind the n from a on, k more before them, and the next k of n
 
@@ -110,17 +110,17 @@ rows-grow width x w y₁ h₁ y₂ h₂ r across grows =
     record {
       here = λ k t. let i = row-in width x w r k across t in rw (i .1, i .0) (grows .here r own);
       off = λ k t. let i = row-in width x w r k across t in rw (i .1, i .0) (grows .off r own);
-      rest = λ k f. by-bool (within x w (k % width))
+      rest = λ k f. cases (within x w (k % width))
           (λ t. rw t (grows .rest (k / width) (other (k / width) (row-out width x w r k across f t))))
           (λ g. rw g);
     }
   where
     other : (q : ℕ) → (q ≡ r → ⊥) → within r 1 q ≡ false
-    other q ne = by-bool (within r 1 q) (λ t. let b = within-in r 1 q t in absurd (ne (omega arith))) (λ f. f)
+    other q ne = cases (within r 1 q) (λ t. let b = within-in r 1 q t in absurd (ne (omega arith))) (λ f. f)
 
 -- nothing painted yet
 within-none : (a k : ℕ) → within a 0 k ≡ false
-within-none a k = by-bool (within a 0 k) (λ t. let b = within-in a 0 k t in absurd (omega arith)) (λ f. f)
+within-none a k = cases (within a 0 k) (λ t. let b = within-in a 0 k t in absurd (omega arith)) (λ f. f)
 
 pub none-done : (a : ℕ) (new : ℕ → ℕ) (old : List ℕ) → Done (within a 0) new old old
 none-done a new old = record { same = refl; is = sym (none-painted (within a 0) new old (λ k h. within-none a k)) }
@@ -194,19 +194,19 @@ module _ (back : Bool) (sx sy x y : ℕ) (is : back ≡ after sx sy x y) where
   pub rows-ordered : Ordered back sy y
   rows-ordered =
       rw is
-      (by-bool (eqb sy y)
-      (λ t. rw t (let e = eqb-true sy y t in by-bool (ltb sx x) (λ l. rw l (omega arith)) (λ g. rw g (omega arith))))
-      (λ n. rw n (by-bool (ltb sy y) (λ l. rw l (let o = ltb-true sy y l in omega arith)) (λ g. rw g (ltb-false sy y g)))))
+      (cases (eqb sy y)
+      (λ t. rw t (let e = eqb-true sy y t in cases (ltb sx x) (λ l. rw l (omega arith)) (λ g. rw g (omega arith))))
+      (λ n. rw n (cases (ltb sy y) (λ l. rw l (let o = ltb-true sy y l in omega arith)) (λ g. rw g (ltb-false sy y g)))))
 
   pub places-ordered : (width j : ℕ) → sx ≤ width → x ≤ width → Ordered back ((sy + j) * width + sx) ((y + j) * width + x)
   places-ordered width j a b =
       rw is
-      (by-bool (eqb sy y)
+      (cases (eqb sy y)
       (λ t. rw (t, eqb-true sy y t)
-      (by-bool (ltb sx x) (λ l. rw l (let o = ltb-true sx x l in omega arith)) (λ g. rw g (let o = ltb-false sx x g in omega arith))))
+      (cases (ltb sx x) (λ l. rw l (let o = ltb-true sx x l in omega arith)) (λ g. rw g (let o = ltb-false sx x g in omega arith))))
       (λ n. rw n
       (let ne = eqb-false sy y n in
-      by-bool (ltb sy y) (λ l. rw l (let o = ltb-true sy y l in below sx sy x y a (omega arith))) (λ g. rw g (let o = ltb-false sy y g in below x y sx sy b (omega arith))))))
+      cases (ltb sy y) (λ l. rw l (let o = ltb-true sy y l in below sx sy x y a (omega arith))) (λ g. rw g (let o = ltb-false sy y g in below x y sx sy b (omega arith))))))
     where
       below : (u v p q : ℕ) → u ≤ width → v < q → (v + j) * width + u ≤ (q + j) * width + p
       below u v p q c h =

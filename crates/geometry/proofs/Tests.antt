@@ -1,29 +1,33 @@
 -- Tests and what they say.
 -- Assumes nothing.
 use mathlib.Core.Path.{_≡_, refl, sym}
-use mathlib.Core.Bool.{Bool, true, false, _&&_, _||_}
+use mathlib.Core.Bool.{Bool, true, false, _&&_, _||_, cond, true≢false, and-eq-true-iff}
 use mathlib.Core.Logic.{_⊎_, inl, inr}
 use Prim.Native.Nat.{ℕ, _+_, _≤_, _<_}
 use native.Mathlib.Omega.{arith}
 use lib.Dec.{leb, ltb}
 use borrow.Author.Tests.{ltb-true, ltb-false, leb-true, leb-false, lt-ltb, le-ltb, le-leb, lt-leb}
+use borrow.Table.Steps.{cases}
 use Rattle.geometry.specs.Pixels.{within}
 
 -- case on a test, with its value in hand
 pub by-bool : {P : Type 0} (b : Bool) → (b ≡ true → P) → (b ≡ false → P) → P
-by-bool true t f = t refl
-by-bool false t f = f refl
+by-bool = cases
 
 pub both : (a b : Bool) → a && b ≡ true → (a ≡ true) × (b ≡ true)
-both true b e = (refl, e)
-both false b e = let z : _≡_ {A = ℕ} 0 1 = cc in absurd (omega arith)
+both a b = and-eq-true-iff a b .0
 
 pub neither : (a b : Bool) → a || b ≡ false → (a ≡ false) × (b ≡ false)
 neither false b e = (refl, e)
-neither true b e = let z : _≡_ {A = ℕ} 0 1 = cc in absurd (omega arith)
+neither true b e = absurd (true≢false cc)
 
 pub and-yes : (a b : Bool) → a ≡ true → b ≡ true → a && b ≡ true
-and-yes a b p q = rw (p, q)
+and-yes a b p q = and-eq-true-iff a b .1 (p, q)
+
+-- what holds of both choices of a test holds of the chosen
+pub by-cond : {A : Type 0} (P : A → Type 0) (b : Bool) {x y : A} → (b ≡ true → P x) → (b ≡ false → P y) → P (cond b x y)
+by-cond P true t f = t refl
+by-cond P false t f = f refl
 
 pub same-bool : (a b : Bool) → (a ≡ true → b ≡ true) → (b ≡ true → a ≡ true) → a ≡ b
 same-bool true b f g = sym (f refl)
@@ -43,4 +47,4 @@ pub within-past : (a n k : ℕ) → a + n ≤ k → within a n k ≡ false
 within-past a n k h = rw (le-leb a k (omega arith), le-ltb k (a + n) h)
 
 pub within-out : (a n k : ℕ) → within a n k ≡ false → (k < a) ⊎ (a + n ≤ k)
-within-out a n k e = by-bool (leb a k) (λ t. inr (ltb-false k (a + n) (rw t at e))) (λ f. inl (leb-false a k f))
+within-out a n k e = cases (leb a k) (λ t. inr (ltb-false k (a + n) (rw t at e))) (λ f. inl (leb-false a k f))

@@ -1,13 +1,14 @@
 -- A list of operations played on a small ring, and the sides of the claim for it, all computed: FENCE and ESCAPE, a ring that carries five words.
 -- Assumes nothing.
 use mathlib.Core.Path.{_≡_, refl}
-use mathlib.Core.Bool.{Bool, true, false, cond, _||_}
+use mathlib.Core.Bool.{true, false, cond, _||_}
 use mathlib.Core.Option.{none, some}
 use mathlib.Core.List.{List, [], _∷_, map}
-use Prim.Native.Nat.{ℕ, _+_, _/_, _≤_}
+use Prim.Native.Nat.{ℕ, _+_, _/_}
 use native.Mathlib.Omega.{arith}
 use lib.ListN.{getD}
 use lib.Dec.{eqb}
+use borrow.Table.Steps.{cases}
 use Rattle.order.specs.declared.Cause.the-variants.{TooLong}
 use Rattle.order.specs.declared.End.the-variants.{Fault}
 use Rattle.order.specs.Straight.{Turn, Line, endOf, steps, straight, whole, ending}
@@ -67,14 +68,10 @@ answers = (refl, refl)
 
 -- this table keeps what a table owes, and so its lists meet the claim
 
-by-bool : (P : ℕ → Type 0) (b : Bool) {m n : ℕ} → P m → P n → P (cond b m n)
-by-bool P true p q = p
-by-bool P false p q = q
-
 commands-laws : TableLaws 5 commands
 commands-laws = record {
-  head-fits = λ x e. by-bool (λ n. n ≤ 5) (eqb x 30) (omega arith) (omega arith);
-  size-some = λ h. by-bool (λ n. 1 ≤ n) (eqb (getD h 0 0) 30) (omega arith) (omega arith);
+  head-fits = λ x e. cases (eqb x 30) (λ t. rw t (omega arith)) (λ f. rw f (omega arith));
+  size-some = λ h. cases (eqb (getD h 0 0) 30) (λ t. rw t (omega arith)) (λ f. rw f (omega arith));
 }
 
 claimed : Demand3 5 turn 0 events (played .queue .line) (played .queue .stands)

@@ -1,7 +1,7 @@
 -- Every list of appends and runs of the queue meets demand 3, and the claim leaves nothing open.
 -- Assumes nothing.
 use mathlib.Core.Path.{_≡_, refl, sym, ap, _∙_}
-use mathlib.Core.Bool.{Bool, true, false, not}
+use mathlib.Core.Bool.{Bool, true, false, not, true≢false}
 use mathlib.Core.Option.{Option, none, some}
 use mathlib.Core.List.{List, [], _∷_, _++_, append-assoc, append-nil, map}
 use Prim.Native.Nat.{ℕ, zero, suc, _+_, _≤_, min}
@@ -193,7 +193,7 @@ module _ {S : Type 0} {cap : ℕ} {turn : S → List ℕ → Turn S} (laws : Law
   judged-split : (a p es r : List Event) → Judged p es → es ≡ a ++ r → Judged (p ++ a) r
   unfolding Judged
   judged-split [] p es r j q = rw (append-nil, ← q) j
-  judged-split (d ∷ a) p [] r j q = let z : _≡_ {A = ℕ} 0 1 = cc in absurd (omega arith)
+  judged-split (d ∷ a) p [] r j q = absurd (true≢false cc)
   judged-split (d ∷ a) p (e ∷ es) r j q =
       let same : d ≡ e = cc in
       let rest : es ≡ a ++ r = cc in
@@ -324,7 +324,7 @@ pub record Answered (es : List Event) (c : Cause) : Type 0 where
 
 pub stood-answered : (es : List Event) (c : Cause) → stood es ≡ some c → Answered es c
 unfolding stood first
-stood-answered [] c h = let z : _≡_ {A = ℕ} 0 1 = cc in absurd (omega arith)
+stood-answered [] c h = absurd (true≢false cc)
 stood-answered (e ∷ es) c h = go (faulted (e .reply)) refl (λ k. stood-answered es c k)
   where
     go : (f : Option Cause) → faulted (e .reply) ≡ f → (stood es ≡ some c → Answered es c) → Answered (e ∷ es) c

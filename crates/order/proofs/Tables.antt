@@ -1,7 +1,7 @@
 -- Every turn over a table keeps the laws that the queue theorem asks. A new command, check or effect changes the table alone.
 -- Assumes nothing.
 use mathlib.Core.Path.{_≡_, refl, ap, _∙_, subst₂}
-use mathlib.Core.Bool.{Bool, true, false}
+use mathlib.Core.Bool.{Bool, true, false, true≢false}
 use mathlib.Core.List.{List, [], _∷_, _++_}
 use Prim.Native.Nat.{ℕ, _≤_, _<_}
 use native.Mathlib.Omega.{arith}
@@ -132,12 +132,12 @@ module _ {S : Type 0} (cap : ℕ) (T : Table S) where
     -- where a turn executes, faults or waits, the words begin with a number and it went one of the ways
     takes-one : (s s′ : S) (w : List ℕ) (n : ℕ) → turnOf cap T s w ≡ exec n s′ → 1 ≤ n
     unfolding turnOf
-    takes-one s s′ [] n q = let z : _≡_ {A = ℕ} 0 1 = cc in absurd (omega arith)
+    takes-one s s′ [] n q = absurd (true≢false cc)
     takes-one s s′ (x ∷ w) n q = well-one s s′ x (x ∷ w) n (rw q at (way s x (x ∷ w)))
 
     takes-whole : (s s′ : S) (w : List ℕ) (n : ℕ) → turnOf cap T s w ≡ exec n s′ → n ≤ length w
     unfolding turnOf
-    takes-whole s s′ [] n q = let z : _≡_ {A = ℕ} 0 1 = cc in absurd (omega arith)
+    takes-whole s s′ [] n q = absurd (true≢false cc)
     takes-whole s s′ (x ∷ w) n q = well-whole s s′ x (x ∷ w) n (rw q at (way s x (x ∷ w)))
 
     exec-stays : (s s′ : S) (w v : List ℕ) (n : ℕ) → turnOf cap T s w ≡ exec n s′ → turnOf cap T s (w ++ v) ≡ exec n s′
@@ -152,12 +152,12 @@ module _ {S : Type 0} (cap : ℕ) (T : Table S) where
 
     wait-has-room : (s : S) (w : List ℕ) → turnOf cap T s w ≡ ends Waiting → length w < cap
     unfolding turnOf RoomIf
-    wait-has-room s [] q = let z : _≡_ {A = ℕ} 0 1 = cc in absurd (omega arith)
+    wait-has-room s [] q = absurd (true≢false cc)
     wait-has-room s (x ∷ w) q = rw q at (room-if laws s x (x ∷ w))
 
     not-13 : (s : S) (w : List ℕ) → turnOf cap T s w ≡ ends (Fault BadNext) → ⊥
     unfolding turnOf
-    not-13 s [] q = let z : _≡_ {A = ℕ} 0 1 = cc in omega arith
+    not-13 s [] q = true≢false cc
     not-13 s (x ∷ w) q = never-13 s x (x ∷ w) (rw q at (way s x (x ∷ w)))
 
     -- every turn over a table keeps the laws

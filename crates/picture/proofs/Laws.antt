@@ -9,8 +9,9 @@ use native.Mathlib.Omega.{arith}
 use lib.Dec.{ltb, leb}
 use lib.ListN.{length, getD}
 use borrow.Author.Tests.{ltb-true, lt-ltb, le-leb}
+use borrow.Table.Steps.{cases}
 use Rattle.geometry.specs.Pixels.{rowOf, inRect, inArea, painted}
-use Rattle.geometry.proofs.Tests.{by-bool, both, and-yes, same-bool}
+use Rattle.geometry.proofs.Tests.{both, and-yes, same-bool}
 use Rattle.geometry.proofs.Painted.{getD-painted, is-painted, painted-region, painted-if, refused-if, length-painted-if, outside-if}
 use Rattle.geometry.proofs.Cutting.{rect, rect-in}
 use Rattle.pixel.specs.Blend.{blendPixel}
@@ -109,8 +110,8 @@ module _ (width rows : ℕ) (screen image old : List ℕ) where
       over-pixel k there =
           let there-too : k < length was = rw length-updated there in
           let e : getD was k 0 ≡ cond (ltb (k / width) rows) (getD screen k 0) (getD old k 0) = rw brought-rows (getD-painted _ _ old k there) in
-          by-bool (leb (c .shape .w * c .shape .h) (length image))
-          (λ t. rw (painted-if _ _ _ was (overlay-fits ∙ t), getD-painted _ _ was k there-too, e, t) (by-bool (ltb (k / width) rows) (λ t. rw t) (λ f. rw f)))
+          cases (leb (c .shape .w * c .shape .h) (length image))
+          (λ t. rw (painted-if _ _ _ was (overlay-fits ∙ t), getD-painted _ _ was k there-too, e, t) (cases (ltb (k / width) rows) (λ t. rw t) (λ f. rw f)))
           (λ f. rw (refused-if _ _ _ was (overlay-fits ∙ f), e, f))
 
       pub with-cursor : overlaid width rows (c .shape) (c .x) (c .y) image (brought width rows screen old) ≡ composed width rows (Cursor c) screen image old

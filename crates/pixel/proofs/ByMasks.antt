@@ -6,7 +6,9 @@ use Prim.Native.Nat.{ℕ, _^_, _<_, min}
 use native.Mathlib.Omega.{arith}
 use lib.Bits.{differ, and-zero-r, xor-zero-l}
 use lib.Dec.{T, eqb, eqb→eq}
+use mir.Facts.{and-yes}
 use borrow.Author.Tests.{eqb-true, eqb-false, eq-eqb, ne-eqb}
+use borrow.Table.Steps.{cases}
 use Rattle.pixel.specs.RasterOperation.{rasterOp}
 use Rattle.pixel.specs.Masks.{reducePixel, reducedOf, mergePixel, masksOf}
 use Rattle.pixel.proofs.Bitwise.{by-bit, by-bits, source, dest, zeros, inverse, both-and, both-xor, ruled, agree, rasterBit, raster}
@@ -35,15 +37,7 @@ abbrev all : (ℕ → Bool) → Bool
 all p = p 0 && p 1
 
 at-bit : (p : ℕ → Bool) → T (all p) → (x : ℕ) → x < 2 → T (p x)
-at-bit p t = by-bit (λ x. T (p x)) (left (p 0) (p 1) t) (right (p 0) (p 1) t)
-  where
-    left : (a b : Bool) → T (a && b) → T a
-    left true b t = tt
-    left false b t = t
-
-    right : (a b : Bool) → T (a && b) → T b
-    right true b t = t
-    right false b t = absurd t
+at-bit p t = let each = and-yes (p 0) (p 1) t in by-bit (λ x. T (p x)) (each .0) (each .1)
 
 -- the masks at one bit, for an operation that makes a of (1, 1), b of (1, 0), c of (0, 1) and e of (0, 0)
 abbrev productBit : ℕ → ℕ → ℕ → ℕ → ℕ
@@ -84,10 +78,6 @@ merged-bit f bit x y h k =
     eqb→eq _ _ (at-bit (right₆ a b c e x) (at-bit (right₅ a b c e) at-four x h) y k)
     ∙ by-bits (λ x y. cond (eqb x 0) (cond (eqb y 0) e c) (cond (eqb y 0) b a) ≡ f x y) refl refl refl refl x y h k
 
-by-bool : {P : Type 0} (t : Bool) → (t ≡ true → P) → (t ≡ false → P) → P
-by-bool true y n = y refl
-by-bool false y n = n refl
-
 pub merged : (rop s d : ℕ) → s < 2 ^ 32 → d < 2 ^ 32 → mergePixel (masksOf rop) s d ≡ rasterOp rop s d
 unfolding rasterOp mergePixel masksOf
 merged rop s d h k =
@@ -99,7 +89,7 @@ merged rop s d h k =
     let product = both-xor (both-xor (both-xor (ruled ones ones r) of-source) of-dest) constant in
     let f = rasterBit rop in
     let bit = productBit (f 1 1) (f 1 0) (f 0 1) (f 0 0) in
-    by-bool (eqb bit 0)
+    cases (eqb bit 0)
     (λ t.
     let z = agree product zeros (λ x y _ _. eqb-true bit 0 t) 32 s d h k in
     rw (eq-eqb _ 0 z)

@@ -6,9 +6,9 @@ use mathlib.Core.List.{List}
 use Prim.Native.Nat.{ℕ, _*_, _^_, _≤_, _<_}
 use lib.Dec.{leb}
 use lib.ListN.{length, getD}
+use borrow.Table.Steps.{cases}
 use Rattle.geometry.specs.declared.Rect.{Rect}
 use Rattle.geometry.specs.Pixels.{placeOf, inArea}
-use Rattle.geometry.proofs.Tests.{by-bool}
 use Rattle.geometry.proofs.Painted.{getD-painted, painted-same, painted-if, refused-if, length-painted-if, outside-if, same-if}
 use Rattle.pixel.proofs.Laws.{copy-stores-source, no-operation}
 use Rattle.raster.specs.Painters.{rowsFit, filled, updated, sourceColumn, sourceRow, moves, copied}
@@ -70,6 +70,6 @@ pub update-same : (width rows : ℕ) (r : Rect) (f g old : List ℕ) → length 
     → ((k : ℕ) → k < length old → inArea width rows r k ≡ true → getD f k 0 ≡ getD g k 0) → updated width rows r f old ≡ updated width rows r g old
 unfolding updated
 update-same width rows r f g old e each =
-    by-bool (rowsFit width rows (length old) && leb (width * rows) (length g))
+    cases (rowsFit width rows (length old) && leb (width * rows) (length g))
     (λ t. rw e (painted-if _ _ _ old t ∙ painted-same _ _ _ old each ∙ sym (painted-if _ _ _ old t)))
     (λ n. rw e (refused-if _ _ _ old n ∙ sym (refused-if _ _ _ old n)))

@@ -1,7 +1,7 @@
 -- Laws of an append: the waiting words become longer by its word, it is refused exactly where the ring is full, and it leaves everything else alone; and what it answers at each of its three ends.
 -- Assumes nothing.
 use mathlib.Core.Path.{_≡_, sym, ap₂, _∙_}
-use mathlib.Core.Bool.{true, false}
+use mathlib.Core.Bool.{true, false, and-eq-true-iff}
 use mathlib.Core.List.{List, [], _∷_, _++_}
 use mathlib.Core.Logic.{_≢_, _↔_}
 use Prim.Native.Nat.{ℕ, suc, _+_, _*_, _/_, _%_, _≤_, _<_}
@@ -10,12 +10,13 @@ use lib.ListN.{length, getD, set, length-set}
 use lib.Seq.{getD-set-same, getD-set-other}
 use lib.Dec.{eqb}
 use borrow.Author.Tests.{eqb-true, eqb-false, eq-eqb, ne-eqb, lt-ltb, le-ltb, not-true, not-false}
+use borrow.Table.Steps.{cases}
 use Rattle.ring.specs.Acceptance.{minOf, maxOf, nextOf, stopOf, usable}
 use Rattle.ring.specs.Waiting.{after, between, words, waiting, carried}
 use Rattle.ring.specs.declared.AppendAnswer.the-variants.{Taken, Refused}
 use Rattle.ring.specs.Append.{movedOn, canAppend, appendTo, appended, appendOf}
-use Rattle.ring.proofs.Laws.{both, Usable, usable-when, when-usable}
-use Rattle.ring.proofs.WaitingLaws.{by-test, words-outside, words-snoc, between-in, between-after, between-full, ahead-between, length-waiting}
+use Rattle.ring.proofs.Laws.{Usable, usable-when, when-usable}
+use Rattle.ring.proofs.WaitingLaws.{words-outside, words-snoc, between-in, between-after, between-full, ahead-between, length-waiting}
 
 pub append-refused : (ring : List ℕ) (x : ℕ) → canAppend ring ≡ false → appendTo ring x ≡ ring
 unfolding appendTo
@@ -24,18 +25,18 @@ append-refused ring x e = rw e
 pub length-append-to : (ring : List ℕ) (x : ℕ) → length (appendTo ring x) ≡ length ring
 unfolding appendTo
 length-append-to ring x =
-    by-test (canAppend ring)
+    cases (canAppend ring)
     (λ e. rw e (length-set (set ring (nextOf ring / 4) x) 2 _ ∙ length-set ring (nextOf ring / 4) x))
     (λ e. rw e)
 
 -- what an append that is not refused has shown
 pub append-usable : (ring : List ℕ) → canAppend ring ≡ true → Usable ring
 unfolding canAppend
-append-usable ring e = usable-when ring (both (usable ring) _ e .0)
+append-usable ring e = usable-when ring (and-eq-true-iff (usable ring) _ .0 e .0)
 
 pub append-apart : (ring : List ℕ) → canAppend ring ≡ true → movedOn (minOf ring) (maxOf ring) (nextOf ring) ≢ stopOf ring
 unfolding canAppend
-append-apart ring e = eqb-false _ _ (not-true _ (both (usable ring) _ e .1))
+append-apart ring e = eqb-false _ _ (not-true _ (and-eq-true-iff (usable ring) _ .0 e .1))
 
 -- NEXT_CMD after an append
 pub next-append : (ring : List ℕ) (x : ℕ) → canAppend ring ≡ true → nextOf (appendTo ring x) ≡ movedOn (minOf ring) (maxOf ring) (nextOf ring)
@@ -48,13 +49,13 @@ next-append ring x e =
 pub append-elsewhere : (ring : List ℕ) (x i : ℕ) → i ≢ 2 → i ≢ nextOf ring / 4 → getD (appendTo ring x) i 0 ≡ getD ring i 0
 unfolding appendTo
 append-elsewhere ring x i a b =
-    by-test (canAppend ring)
+    cases (canAppend ring)
     (λ e. rw e (getD-set-other (set ring (nextOf ring / 4) x) 2 i _ 0 a ∙ getD-set-other ring (nextOf ring / 4) i x 0 b))
     (λ e. rw e)
 
 head-stays : (ring : List ℕ) (x i : ℕ) → i ≢ 2 → i < 4 → getD (appendTo ring x) i 0 ≡ getD ring i 0
 head-stays ring x i a b =
-    by-test (canAppend ring)
+    cases (canAppend ring)
     (λ e. let u = append-usable ring e in append-elsewhere ring x i a (λ f. let w : i ≡ nextOf ring / 4 = f in omega arith))
     (λ e. rw (append-refused ring x e))
 
@@ -65,7 +66,7 @@ moved-in : (ring : List ℕ) → Usable ring
     × (movedOn (minOf ring) (maxOf ring) (nextOf ring) < maxOf ring)
 unfolding movedOn
 moved-in ring u =
-    by-test (eqb (nextOf ring + 4) (maxOf ring))
+    cases (eqb (nextOf ring + 4) (maxOf ring))
     (λ e. rw e (u .min-word, omega arith, omega arith))
     (λ e. let w : nextOf ring + 4 ≢ maxOf ring = eqb-false _ _ e in rw e (omega arith, omega arith, omega arith))
 
@@ -83,7 +84,7 @@ append-keeps ring x =
       low,
       high,
       stop,
-      by-test (canAppend ring)
+      cases (canAppend ring)
           (λ e.
           let u = append-usable ring e in
           let m = moved-in ring u in
@@ -111,7 +112,7 @@ append-keeps ring x =
 moved-word : (lo hi p : ℕ) → p % 4 ≡ 0 → p < 4 * hi → movedOn (4 * lo) (4 * hi) p ≡ 4 * after lo hi (p / 4)
 unfolding movedOn after
 moved-word lo hi p e h =
-    by-test (eqb (p + 4) (4 * hi))
+    cases (eqb (p + 4) (4 * hi))
     (λ t. let u : p + 4 ≡ 4 * hi = eqb-true _ _ t in rw (t, le-ltb (suc (p / 4)) hi (omega arith)) (omega arith))
     (λ t. let u : p + 4 ≢ 4 * hi = eqb-false _ _ t in rw (t, lt-ltb (suc (p / 4)) hi (omega arith)) (omega arith))
 

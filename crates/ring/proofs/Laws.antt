@@ -1,7 +1,7 @@
 -- When ring words are accepted, condition by condition, for readers and for the crates above: exactly when `Usable` holds of them.
 -- Assumes nothing.
 use mathlib.Core.Path.{_≡_, refl, ap}
-use mathlib.Core.Bool.{Bool, true, false, _&&_, cond, false≢true}
+use mathlib.Core.Bool.{Bool, true, false, cond, true≢false, and-eq-true-iff}
 use mathlib.Core.List.{List}
 use Prim.Native.Nat.{ℕ, _+_, _*_, _/_, _%_, _≤_, _<_}
 use native.Mathlib.Omega.{arith}
@@ -26,24 +26,20 @@ pub record Usable (ring : List ℕ) : Type 0 where
   pub stop-low : minOf ring ≤ stopOf ring
   pub stop-high : stopOf ring < maxOf ring
 
-pub both : (a b : Bool) → a && b ≡ true → (a ≡ true) × (b ≡ true)
-both true b e = (refl, e)
-both false b e = absurd (false≢true e)
-
 pub usable-when : (ring : List ℕ) → usable ring ≡ true → Usable ring
 unfolding usable boundsUsable offsetUsable
 usable-when ring e =
-    let there = both _ _ e in
-    let bounds = both _ _ (there .1) in
-    let min-word = both _ _ (bounds .0) in
-    let max-word = both _ _ (min-word .1) in
-    let low = both _ _ (max-word .1) in
-    let fits = both _ _ (low .1) in
-    let offsets = both _ _ (bounds .1) in
-    let next-word = both _ _ (offsets .0) in
-    let next = both _ _ (next-word .1) in
-    let stop-word = both _ _ (offsets .1) in
-    let stop = both _ _ (stop-word .1) in
+    let there = and-eq-true-iff _ _ .0 e in
+    let bounds = and-eq-true-iff _ _ .0 (there .1) in
+    let min-word = and-eq-true-iff _ _ .0 (bounds .0) in
+    let max-word = and-eq-true-iff _ _ .0 (min-word .1) in
+    let low = and-eq-true-iff _ _ .0 (max-word .1) in
+    let fits = and-eq-true-iff _ _ .0 (low .1) in
+    let offsets = and-eq-true-iff _ _ .0 (bounds .1) in
+    let next-word = and-eq-true-iff _ _ .0 (offsets .0) in
+    let next = and-eq-true-iff _ _ .0 (next-word .1) in
+    let stop-word = and-eq-true-iff _ _ .0 (offsets .1) in
+    let stop = and-eq-true-iff _ _ .0 (stop-word .1) in
     record {
       there = leb-true _ _ (there .0);
       min-word = eqb-true _ _ (min-word .0);
@@ -88,7 +84,7 @@ refused-when ring e = rw e
 
 chosen : (b : Bool) (r g : Ring) → cond b (Accepted r) Refused ≡ Accepted g → (b ≡ true) × (r ≡ g)
 chosen true r g e = (refl, cc)
-chosen false r g e = let z : _≡_ {A = ℕ} 0 1 = cc in let no : ⊥ = omega arith in absurd no
+chosen false r g e = absurd (true≢false cc)
 
 -- the remembered words are a quarter of the bytes, with nothing lost
 pub accepted-ring : (ring : List ℕ) (g : Ring) → accepted ring ≡ Accepted g

@@ -10,12 +10,12 @@ use lib.ListN.{length, getD, set, take, drop, List·getD-eq-default}
 use lib.Seq.{getD-set-other, getD-set-same}
 use lib.Dec.{ltb, leb}
 use borrow.Author.Tests.{lt-ltb, le-ltb, le-leb, lt-leb, ltb-true, ltb-false, leb-true, leb-false}
+use borrow.Table.Steps.{cases}
 use Rattle.ring.specs.Waiting.{after, ahead, between, words, waiting, carried}
 
 -- a proof by the two outcomes of a test
 pub by-test {ℓ} : {A : Type ℓ} (b : Bool) → (b ≡ true → A) → (b ≡ false → A) → A
-by-test true f g = f refl
-by-test false f g = g refl
+by-test = cases
 
 -- p is a place of the ring, and the ring holds n words
 pub record InRing (lo hi p n : ℕ) : Type 0 where
@@ -26,12 +26,12 @@ pub record InRing (lo hi p n : ℕ) : Type 0 where
 -- the places of the ring
 pub after-in : (lo hi p : ℕ) → lo ≤ p → p < hi → (lo ≤ after lo hi p) × (after lo hi p < hi)
 unfolding after
-after-in lo hi p a b = by-test (ltb (suc p) hi) (λ e. rw e (let u : suc p < hi = ltb-true _ _ e in omega arith)) (λ e. rw e (omega arith))
+after-in lo hi p a b = cases (ltb (suc p) hi) (λ e. rw e (let u : suc p < hi = ltb-true _ _ e in omega arith)) (λ e. rw e (omega arith))
 
 pub ahead-in : (lo hi p k : ℕ) → InRing lo hi p k → (lo ≤ ahead lo hi p k) × (ahead lo hi p k < hi)
 unfolding ahead
 ahead-in lo hi p k h =
-    by-test (ltb (p + k) hi) (λ e. rw e (let u : p + k < hi = ltb-true _ _ e in omega arith)) (λ e. rw e (let u : hi ≤ p + k = ltb-false _ _ e in omega arith))
+    cases (ltb (p + k) hi) (λ e. rw e (let u : p + k < hi = ltb-true _ _ e in omega arith)) (λ e. rw e (let u : hi ≤ p + k = ltb-false _ _ e in omega arith))
 
 pub ahead-zero : (lo hi p : ℕ) → p < hi → ahead lo hi p 0 ≡ p
 unfolding ahead
@@ -40,7 +40,7 @@ ahead-zero lo hi p b = rw (lt-ltb (p + 0) hi (omega arith)) (omega arith)
 pub ahead-after : (lo hi p k : ℕ) → InRing lo hi p (suc k) → ahead lo hi (after lo hi p) k ≡ ahead lo hi p (suc k)
 unfolding after ahead
 ahead-after lo hi p k h =
-    by-test (ltb (suc p) hi)
+    cases (ltb (suc p) hi)
     (λ e. rw e (let s : suc p + k ≡ p + suc k = omega arith in rw s))
     (λ e. let u : hi ≤ suc p = ltb-false _ _ e in rw (e, lt-ltb (lo + k) hi (omega arith), le-ltb (p + suc k) hi (omega arith)) (omega arith))
 
@@ -102,7 +102,7 @@ words-outside ring lo hi p (suc n) q x a b c =
 ahead-other : (lo hi p k : ℕ) → InRing lo hi p (suc (suc k)) → ahead lo hi p (suc k) ≡ p → ⊥
 unfolding ahead
 ahead-other lo hi p k h =
-    by-test (ltb (p + suc k) hi)
+    cases (ltb (p + suc k) hi)
     (λ e. rw e (λ f. let u : p + suc k ≡ p = f in omega arith))
     (λ e. rw e (let v : hi ≤ p + suc k = ltb-false _ _ e in λ f. let u : p + suc k - (hi - lo) ≡ p = f in omega arith))
 
@@ -120,7 +120,7 @@ module _ (lo hi p q : ℕ) (a : lo ≤ p) (b : p < hi) (c : lo ≤ q) (d : q < h
   -- never more than the ring carries
   pub between-carried : between lo hi p q ≤ carried lo hi
   unfolding between
-  between-carried = by-test (leb p q) (λ e. rw e (let u : p ≤ q = leb-true _ _ e in omega arith)) (λ e. rw e (let u : q < p = leb-false _ _ e in omega arith))
+  between-carried = cases (leb p q) (λ e. rw e (let u : p ≤ q = leb-true _ _ e in omega arith)) (λ e. rw e (let u : q < p = leb-false _ _ e in omega arith))
 
   pub between-in : InRing lo hi p (suc (between lo hi p q))
   between-in = let u = between-carried in record { from = a; below = b; held = omega arith }
@@ -128,17 +128,17 @@ module _ (lo hi p q : ℕ) (a : lo ≤ p) (b : p < hi) (c : lo ≤ q) (d : q < h
   pub between-ahead : (k : ℕ) → k ≤ between lo hi p q → between lo hi (ahead lo hi p k) q ≡ between lo hi p q - k
   unfolding between ahead
   between-ahead k =
-      by-test (leb p q)
+      cases (leb p q)
       (λ e. let u : p ≤ q = leb-true _ _ e in rw e (λ h. rw (lt-ltb (p + k) hi (omega arith), le-leb (p + k) q (omega arith)) (omega arith)))
       (λ e. let u : q < p = leb-false _ _ e in rw e (λ h.
-      by-test (ltb (p + k) hi)
+      cases (ltb (p + k) hi)
       (λ f. let v : p + k < hi = ltb-true _ _ f in rw (f, lt-leb (p + k) q (omega arith)) (omega arith))
       (λ f. let v : hi ≤ p + k = ltb-false _ _ f in rw (f, le-leb (p + k - (hi - lo)) q (omega arith)) (omega arith))))
 
   pub ahead-between : ahead lo hi p (between lo hi p q) ≡ q
   unfolding between ahead
   ahead-between =
-      by-test (leb p q)
+      cases (leb p q)
       (λ e. let u : p ≤ q = leb-true _ _ e in rw (e, lt-ltb (p + (q - p)) hi (omega arith)) (omega arith))
       (λ e. let u : q < p = leb-false _ _ e in rw (e, le-ltb (p + (q + (hi - lo) - p)) hi (omega arith)) (omega arith))
 
@@ -146,9 +146,9 @@ module _ (lo hi p q : ℕ) (a : lo ≤ p) (b : p < hi) (c : lo ≤ q) (d : q < h
   pub between-after : (after lo hi q ≡ p → ⊥) → between lo hi p (after lo hi q) ≡ suc (between lo hi p q)
   unfolding between after
   between-after =
-      by-test (ltb (suc q) hi)
+      cases (ltb (suc q) hi)
       (λ e. let u : suc q < hi = ltb-true _ _ e in rw e (λ h.
-      by-test (leb p q)
+      cases (leb p q)
       (λ f. let v : p ≤ q = leb-true _ _ f in rw (f, le-leb p (suc q) (omega arith)) (omega arith))
       (λ f. let v : q < p = leb-false _ _ f in rw (f, lt-leb p (suc q) (let w : suc q ≢ p = h in omega arith)) (omega arith))))
       (λ e. let u : hi ≤ suc q = ltb-false _ _ e in rw (e, le-leb p q (omega arith)) (λ h.
@@ -161,13 +161,13 @@ module _ (lo hi p q : ℕ) (a : lo ≤ p) (b : p < hi) (c : lo ≤ q) (d : q < h
     where
       full : after lo hi q ≡ p → between lo hi p q ≡ carried lo hi
       full =
-          by-test (ltb (suc q) hi)
+          cases (ltb (suc q) hi)
           (λ e. rw e (λ h. let w : suc q ≡ p = h in rw (lt-leb p q (omega arith)) (omega arith)))
           (λ e. let u : hi ≤ suc q = ltb-false _ _ e in rw e (λ h. let w : lo ≡ p = h in rw (le-leb p q (omega arith)) (omega arith)))
 
       round : between lo hi p q ≡ carried lo hi → after lo hi q ≡ p
       round =
-          by-test (leb p q)
+          cases (leb p q)
           (λ e. let u : p ≤ q = leb-true _ _ e in rw e (λ h. let w : q - p ≡ carried lo hi = h in rw (le-ltb (suc q) hi (omega arith)) (omega arith)))
           (λ e. let u : q < p = leb-false _ _ e in rw e (λ h. let w : q + (hi - lo) - p ≡ carried lo hi = h in rw (lt-ltb (suc q) hi (omega arith)) (omega arith)))
 

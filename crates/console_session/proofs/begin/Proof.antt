@@ -1,8 +1,7 @@
 -- `console_session::begin` meets its contract.
 -- Assumes nothing.
 use mathlib.Core.Path.{_≡_, sym, _∙_}
-use Prim.Native.Nat.{ℕ}
-use native.Mathlib.Omega.{arith}
+use mathlib.Core.Bool.{true≢false}
 use borrow.Author.Needs.{needs}
 use Rattle.device.specs.declared.Making.the-variants.{Made, Refused}
 use Rattle.device.specs.declared.Device.{Device}
@@ -11,7 +10,7 @@ use Rattle.console_session.proofs.begin.Statement.{statement}
 use Rattle.console_session.proofs.begin.Tie as tie
 
 apart : (d : Device) → Made d ≡ Refused → ⊥
-apart d e = let z : _≡_ {A = ℕ} 0 1 = cc in omega arith
+apart d e = true≢false cc
 
 same : (d e : Device) → Made d ≡ Made e → d ≡ e
 same d e h = cc
