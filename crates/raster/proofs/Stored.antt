@@ -2,7 +2,7 @@
 -- Assumes nothing.
 use mathlib.Core.Path.{_≡_, refl}
 use mathlib.Core.List.{List}
-use Prim.Native.Nat.{ℕ, _+_, _≤_}
+use Prim.Native.Nat.{ℕ, _+_, _-_, _≤_}
 use native.Mathlib.Omega.{arith}
 use lib.ListN.{length, getD}
 use borrow.Rule.Slice.PartMut.{midOf, putMid}
@@ -10,7 +10,7 @@ use Rattle.geometry.specs.Pixels.{within, tabulate}
 use Rattle.geometry.proofs.Tests.{within-yes}
 use Rattle.geometry.proofs.Tabulate.{is-tabulate}
 use Rattle.geometry.proofs.Painted.{Done, done-row, done-more, getD-painted}
-use Rattle.geometry.proofs.Rows.{grow-right}
+use Rattle.geometry.proofs.Rows.{grow-right, none-done}
 
 module _ (c : ℕ) (old l : List ℕ) where
   -- p pixels more behind the i from a on: a part that was lent and is back
@@ -29,3 +29,8 @@ module _ (c : ℕ) (old l : List ℕ) where
   all-stored n e done =
       is-tabulate l (length old) (λ k. c) (done .same)
       (λ k h. rw (done .is, getD-painted (within 0 n) (λ k. c) old k h, within-yes 0 n k (omega arith) (omega (arith, e))))
+
+-- the first n pixels
+pub first-stored : (c n : ℕ) (old row : List ℕ) → n ≤ length old → row ≡ tabulate (length (midOf 0 (n - 0) old)) (λ k. c)
+    → Done (within 0 n) (λ k. c) old (putMid 0 (n - 0) old row)
+first-stored c n old row h is = part-stored c old old row 0 0 (n - 0) n 0 (none-done 0 _ _) (omega arith) (omega arith) (omega arith) is

@@ -40,11 +40,16 @@ put-number-put-number-requires t c κs =
 
 put-number-put-requires-2 : (t : ℕ) → put-number-lts.Need-put-requires-2 (put-reads.Asked, put-reads.Learnt, put-number-below t, put-number.Post) (put-number-at t) put-number.Post
 put-number-put-requires-2 t c κs =
-    omega (arith, c .before .before .before .before .before .before .before .pre .1, c .before .before .before .put-number .ensures .ends, c .before .before .before .put-number .kept .0, large-length (c .before .before .before .before .before .before .before .args .n) (omega arith) (c .before .before .before .before .before .if1 .left))
+    let tens = c .before .before .before in
+    let large = tens .before .before in
+    let start = large .before .before in
+    omega (arith, start .pre .1, tens .put-number .ensures .ends, tens .put-number .kept .0, large-length (start .args .n) (omega arith) (large .if1 .left))
 
 put-number-returns-2 : (t : ℕ) → put-number-lts.Need-returns-2 (put-reads.Asked, put-reads.Learnt, put-number-below t, put-number.Post) (put-number-at t) put-number.Post
 put-number-returns-2 t c =
-    rw (decimal-large (c .before .before .before .before .before .before .before .before .before .before .args .n) (omega arith) (c .before .before .before .before .before .before .before .before .if1 .left)) (put-then (c .before .before .before .before .before .before .put-number .ensures) (c .before .before .put2 .ensures))
+    let tens = c .before .before .before .before .before .before in
+    let large = tens .before .before in
+    rw (decimal-large (large .before .before .args .n) (omega arith) (large .if1 .left)) (put-then (tens .put-number .ensures) (c .before .before .put2 .ensures))
 
 pub +put-number-spec : {M : Type 1} → statement M
 +put-number-spec =

@@ -25,8 +25,9 @@ returns-2 c =
 returns-3 : tie.Need-returns-3
 unfolding shown
 returns-3 c =
-    let a = c .before .before .before .before .before .before .before .args in
-    let room : a .at + 26 ≤ length (a .out .now) = omega arith in rw (le-leb _ _ room) (c .before .before .put-answer .ensures)
+    let call = c .before .before in
+    let a = call .before .before .before .before .before .args in
+    let room : a .at + 26 ≤ length (a .out .now) = omega arith in rw (le-leb _ _ room) (call .put-answer .ensures)
 
 pub print-spec : {M : Type 1} → statement M
 print-spec =

@@ -20,7 +20,10 @@ returns-3 c = rw (c .before .before .before .before .before .answer3 .given .1) 
 
 returns-4 : tie.Need-returns-4
 unfolding textOf lineOf
-returns-4 c = rw (c .before .before .before .before .before .before .before .before .before .answer4 .given .1) (put-then (c .before .before .before .before .before .before .put-run .ensures) (c .before .before .put-numbers .ensures))
+returns-4 c =
+    let numbers = c .before .before in
+    let run = numbers .before .before .before .before in
+    rw (run .before .before .before .answer4 .given .1) (put-then (run .put-run .ensures) (numbers .put-numbers .ensures))
 
 returns-5 : tie.Need-returns-5
 unfolding textOf lineOf

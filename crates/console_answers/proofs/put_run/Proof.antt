@@ -6,7 +6,11 @@ use Rattle.console_answers.proofs.put_run.Statement.{statement}
 use Rattle.console_answers.proofs.put_run.Tie as tie
 
 returns : tie.Need-returns
-returns c = put-then (c .before .before .before .before .before .before .before .before .before .before .put .ensures) (put-then (c .before .before .before .before .before .before .put2 .ensures) (c .before .before .put3 .ensures))
+returns c =
+    let third = c .before .before in
+    let second = third .before .before .before .before in
+    let first = second .before .before .before .before in
+    put-then (first .put .ensures) (put-then (second .put2 .ensures) (third .put3 .ensures))
 
 pub put-run-spec : {M : Type 1} → statement M
 put-run-spec = tie.close (tie.spec (λ c κs. search needs) (λ c κs. search needs) (λ c κs. search needs) (λ c. search needs) returns)

@@ -12,9 +12,11 @@ returns c =
 
 overlay-seen-requires : tie.Need-overlay-seen-requires
 overlay-seen-requires c κs =
-    let a = c .before .before .before .before .before .before .before .args in
-    seen-inside (a .width) (a .rows) (a .shape) (a .x) (a .y) (a .image .now) (a .picture .now) _ (c .before .before .before .before .overlay-fits .ensures)
-    (c .before .before .before .if1 .left) _ _ (c .before .before .span-of .ensures) (c .before .span-of2 .ensures)
+    let spans = c .before in
+    let fit = spans .before .before .before in
+    let a = fit .before .before .before .args in
+    seen-inside (a .width) (a .rows) (a .shape) (a .x) (a .y) (a .image .now) (a .picture .now) _ (fit .overlay-fits .ensures)
+    (spans .before .before .if1 .left) _ _ (spans .before .span-of .ensures) (spans .span-of2 .ensures)
 
 returns-2 : tie.Need-returns-2
 returns-2 c =

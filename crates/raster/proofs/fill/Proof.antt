@@ -1,8 +1,11 @@
 -- `raster::fill` meets its contract: refused, with nothing left, or at the cut rectangle.
 -- Assumes nothing.
-use mathlib.Core.Path.{sym, _∙_}
+use mathlib.Core.Path.{_≡_, sym, _∙_}
+use mathlib.Core.Bool.{true}
+use lib.ListN.{length}
 use borrow.Author.Needs.{needs}
 use borrow.Author.Tests.{not-true, not-false}
+use Rattle.raster.specs.Painters.{rowsFit}
 use Rattle.raster.proofs.Cuts.{rows-fit, cut-inside, fill-refused, fill-nothing, fill-cut}
 use Rattle.raster.proofs.fill.Statement.{statement}
 use Rattle.raster.proofs.fill.Tie as tie
@@ -12,24 +15,35 @@ returns c =
     let a = c .before .before .before .args in
     fill-refused (a .width) (a .rows) (a .area) (a .colour) (a .rop) (a .screen .now) (sym (c .before .rows-fit .ensures) ∙ not-true _ (c .if1 .taken))
 
+-- where the rows fit
+abbrev Start : tie.Else1 → tie.Start
+Start c = c .before .before .before
+
+fits : (c : tie.Else1) → let a = Start c .args in rowsFit (a .width) (a .rows) (length (a .screen .now)) ≡ true
+fits c = sym (c .before .rows-fit .ensures) ∙ not-false _ (c .if1 .left)
+
 fill-cut-requires : tie.Need-fill-cut-requires
 fill-cut-requires c κs =
-    let a = c .before .before .before .before .before .before .before .before .args in
-    let fit = rows-fit (a .width) (a .rows) _ (sym (c .before .before .before .before .before .before .rows-fit .ensures) ∙ not-false _ (c .before .before .before .before .before .if1 .left)) in
-    cut-inside (a .width) (a .rows) (a .area) _ (sym (c .before .before .before .before .cut-to .ensures) ∙ c .before .before .c .given .1) _ (fit .long)
+    let arm = c .before .before in
+    let cut = arm .before .before in
+    let a = Start (cut .before) .args in
+    let fit = rows-fit (a .width) (a .rows) _ (fits (cut .before)) in
+    cut-inside (a .width) (a .rows) (a .area) _ (sym (cut .cut-to .ensures) ∙ arm .c .given .1) _ (fit .long)
 
 returns-2 : tie.Need-returns-2
 returns-2 c =
-    let a = c .before .before .before .before .before .before .before .before .before .before .before .args in
-    c .before .before .fill-cut .ensures
-    ∙ fill-cut (a .width) (a .rows) (a .area) (a .colour) (a .rop) (a .screen .now) _
-    (sym (c .before .before .before .before .before .before .before .before .before .rows-fit .ensures) ∙ not-false _ (c .before .before .before .before .before .before .before .before .if1 .left)) (sym (c .before .before .before .before .before .before .before .cut-to .ensures) ∙ c .before .before .before .before .before .c .given .1)
+    let call = c .before .before in
+    let arm = call .before .before .before in
+    let cut = arm .before .before in
+    let a = Start (cut .before) .args in
+    call .fill-cut .ensures
+    ∙ fill-cut (a .width) (a .rows) (a .area) (a .colour) (a .rop) (a .screen .now) _ (fits (cut .before)) (sym (cut .cut-to .ensures) ∙ arm .c .given .1)
 
 returns-3 : tie.Need-returns-3
 returns-3 c =
-    let a = c .before .before .before .before .before .before .args in
-    fill-nothing (a .width) (a .rows) (a .area) (a .colour) (a .rop) (a .screen .now)
-    (sym (c .before .before .before .before .rows-fit .ensures) ∙ not-false _ (c .before .before .before .if1 .left)) (sym (c .before .before .cut-to .ensures) ∙ c .enum-told .given .1)
+    let cut = c .before .before in
+    let a = Start (cut .before) .args in
+    fill-nothing (a .width) (a .rows) (a .area) (a .colour) (a .rop) (a .screen .now) (fits (cut .before)) (sym (cut .cut-to .ensures) ∙ c .enum-told .given .1)
 
 pub fill-spec : {M : Type 1} → statement M
 fill-spec =

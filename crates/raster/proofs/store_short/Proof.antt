@@ -8,7 +8,7 @@ use borrow.Author.Needs.{needs}
 use Rattle.geometry.specs.Pixels.{within}
 use Rattle.geometry.proofs.Painted.{Done}
 use Rattle.geometry.proofs.Rows.{none-done}
-use Rattle.raster.proofs.Stored.{part-stored, then-stored, all-stored}
+use Rattle.raster.proofs.Stored.{part-stored, first-stored, then-stored, all-stored}
 use Rattle.raster.proofs.store_short.Statement.{statement}
 use Rattle.raster.proofs.store_short.Tie as tie
 
@@ -18,17 +18,22 @@ Inv-loop row₀ first colour n i₀ row i = (first ≤ i) × (i ≤ n) × (n ≡
 abbrev μ-loop : tie.MeasureT-loop
 μ-loop row₀ first colour n i₀ row i = n - i
 
+-- seen from the store of the first ones
+abbrev Start : tie.After-store-row2 Inv-loop μ-loop → tie.Start Inv-loop μ-loop
+Start c = c .before .before .before .before
+
 loop-holds : tie.Need-loop-holds Inv-loop μ-loop
 loop-holds c =
-    let a = c .before .before .before .before .before .before .args in
-    let head = part-stored (a .colour) (a .row .now) (a .row .now) _ 0 0 (a .first - 0) (a .first) 0 (none-done 0 _ _) (omega arith) (omega arith) (omega arith) (c .before .before .store-row2 .ensures) in
+    let first = c .before .before in
+    let a = Start first .args in
     let none : a .first - a .first ≡ 0 = omega arith in
-    (omega arith, omega arith, omega (arith, head .same), rw none (none-done (a .first) _ _))
+    (omega arith, omega arith, omega (arith, first-stored (a .colour) (a .first) (a .row .now) _ (omega arith) (first .store-row2 .ensures) .same), rw none (none-done (a .first) _ _))
 
 loop-again : tie.Need-loop-again Inv-loop μ-loop
 loop-again c =
-    let at = c .before .before .before .before .before .loop in
-    let a = c .before .before .before .before .before .before .before .before .before .before .before .before .args in (
+    let at-loop = c .before .before .before .before .before in
+    let at = at-loop .loop in
+    let a = Start (at-loop .before .before .before) .args in (
       omega arith,
       omega arith,
       at .inv .2,
@@ -37,12 +42,12 @@ loop-again c =
 
 returns-2 : tie.Need-returns-2 Inv-loop μ-loop
 returns-2 c =
-    let at = c .before .before .before .before .before .loop in
-    let s = c .before .before .before .before .before .before .before .before in
-    let a = s .before .before .before .before .args in
-    let head = part-stored (a .colour) (a .row .now) (a .row .now) _ 0 0 (a .first - 0) (a .first) 0 (none-done 0 _ _) (omega arith) (omega arith) (omega arith) (s .store-row2 .ensures) in
+    let at-loop = c .before .before .before .before .before in
+    let at = at-loop .loop in
+    let first = at-loop .before .before .before in
+    let a = Start first .args in
     let e : a .first + (at .i - a .first) ≡ at .i = omega arith in
-    let most = rw e at (then-stored (a .colour) (a .row .now) _ _ (a .first) (at .i - a .first) head (at .inv .3)) in
+    let most = rw e at (then-stored (a .colour) (a .row .now) _ _ (a .first) (at .i - a .first) (first-stored (a .colour) (a .first) (a .row .now) _ (omega arith) (first .store-row2 .ensures)) (at .inv .3)) in
     all-stored (a .colour) (a .row .now) _ (length (a .row .now)) refl
     (part-stored (a .colour) (a .row .now) _ _ 0 (at .i) (length (a .row .now) - at .i) (length (a .row .now)) (at .i) most (omega arith) (omega arith) (omega arith) (c .before .before .store-row4 .ensures))
 
