@@ -4,6 +4,7 @@ use mathlib.Core.Path.{_≡_, sym, _∙_}
 use mathlib.Core.Bool.{cond}
 use mathlib.Core.List.{List}
 use Prim.Native.Nat.{ℕ, _-_, _≤_}
+use native.Mathlib.Nat.{sub-zero}
 use native.Mathlib.Omega.{arith}
 use lib.ListN.{length, take, drop, length-take}
 use Rattle.device.specs.declared.Device.{Device}
@@ -11,15 +12,18 @@ use Rattle.console_session.specs.declared.Session.{Session}
 use Rattle.console_session.specs.declared.Start.{Start}
 use Rattle.console_session.specs.declared.Start.the-variants.{Ready}
 use Rattle.console_session.specs.Parts.{readyWith}
-use Rattle.console_session.specs.Session.{State, fits, Within}
+use Rattle.console_session.specs.Session.{State, fedAll, fits, Within}
 use Rattle.console_session.proofs.Feeding.{within-fits}
 
 pub chunk-within : {s : Session} {room line out : ℕ} (l : List ℕ) (n : ℕ) → length l ≡ room → Within s room line out
     → Within s (length (take (n - 0) (drop 0 l))) line out
 chunk-within l n e w = record { whole = w .whole; held = w .held; room = omega (arith, w .room, length-take (n - 0) l) }
 
-pub fed-whole : {s : Session} {n line out : ℕ} → Within s n line out → (t a b : State) → t ≡ cond (fits s n line out) a b → t ≡ a
-fed-whole {s} {n} {line} {out} w t a b e = rw (within-fits s n line out w) at e
+-- what a feed of it leaves
+pub fed-chunk : {s : Session} {line out : ℕ} (n : ℕ) (l : List ℕ) → Within s (length (take (n - 0) (drop 0 l))) line out → (t a b : State)
+    → t ≡ cond (fits s (length (take (n - 0) (drop 0 l))) line out) (fedAll a (take (n - 0) (drop 0 l))) b → t ≡ fedAll a (take n l)
+fed-chunk {s} {line} {out} n l w t a b e =
+    let whole : t ≡ fedAll a (take (n - 0) (drop 0 l)) = rw (within-fits s (length (take (n - 0) (drop 0 l))) line out w) at e in rw sub-zero at whole
 
 pub within-same : {s : Session} {m n line line′ out out′ : ℕ} → m ≡ n → line ≡ line′ → out ≡ out′ → Within s m line out → Within s n line′ out′
 within-same e f g w = record { whole = omega (arith, w .whole); held = w .held; room = omega (arith, w .room) }

@@ -1,30 +1,43 @@
 -- `console::turn` meets its contract.
 -- Assumes nothing.
 use mathlib.Core.Path.{_≡_, ap}
-use native.Mathlib.Nat.{sub-zero}
 use native.Mathlib.Omega.{arith}
 use lib.ListN.{length}
 use borrow.Author.Needs.{needs}
 use Rattle.console_session.specs.Session.{State, flushed, Within}
-use Rattle.console.proofs.Turning.{chunk-within, fed-whole}
+use Rattle.console.proofs.Turning.{chunk-within, fed-chunk}
 use Rattle.console.proofs.turn.Statement.{statement}
 use Rattle.console.proofs.turn.Tie as tie
 
+-- the places: the chunk is read, it is fed, and what was printed is written
+abbrev Start : tie.After-fill → tie.Start
+Start c = c .before .before .before .before .before .before .before .before .before
+
+abbrev Filled : tie.After-feed → tie.After-fill
+Filled c = c .before .before .before .before .before .before .before .before .before .before .before
+
+abbrev Fed : tie.After-write-out-arg → tie.After-feed
+Fed c = c .before .before .before .before .before .before .before .before .before .before .before .before .before
+
 write-out-requires : tie.Need-write-out-requires
 write-out-requires c κs =
-    let room = chunk-within _ (c .before .before .before .before .before .before .before .before .before .before .before .before .before .before .before .before .before .before .before .before .before .before .before .before .fill .result) (c .before .before .before .before .before .before .before .before .before .before .before .before .before .before .before .before .before .before .before .before .before .before .before .before .fill .kept .0) (c .before .before .before .before .before .before .before .before .before .before .before .before .before .before .before .before .before .before .before .before .before .before .before .before .before .before .before .before .before .before .before .before .before .pre) in
-    omega (arith, c .before .before .before .before .before .before .before .before .before .before .before .before .before .feed .ensures .1 room .room, c .before .before .before .before .before .before .before .before .before .before .before .before .before .feed .kept .1 .1 .1 .1 .1 .1 .1 .0)
+    let fed = Fed c in
+    let filled = Filled fed in
+    let room = chunk-within _ (filled .fill .result) (filled .fill .kept .0) (Start filled .pre) in
+    omega (arith, fed .feed .ensures .1 room .room, fed .feed .kept .1 .1 .1 .1 .1 .1 .1 .0)
 
 same-length : tie.Need-same-length
-same-length c = c .before .before .before .before .before .before .before .before .before .before .before .before .before .before .before .before .before .before .before .before .before .before .before .before .before .before .before .fill .kept .0
+same-length c = Filled (Fed (c .before .before .before)) .fill .kept .0
 
 returns : tie.Need-returns
 returns c =
-    let room = chunk-within _ (c .before .before .before .before .before .before .before .before .before .before .before .before .before .before .before .before .before .before .before .before .before .before .before .before .before .before .before .fill .result) (c .before .before .before .before .before .before .before .before .before .before .before .before .before .before .before .before .before .before .before .before .before .before .before .before .before .before .before .fill .kept .0) (c .before .before .before .before .before .before .before .before .before .before .before .before .before .before .before .before .before .before .before .before .before .before .before .before .before .before .before .before .before .before .before .before .before .before .before .before .pre) in
-    let fed = rw sub-zero at (fed-whole room _ _ _ (c .before .before .before .before .before .before .before .before .before .before .before .before .before .before .before .before .feed .ensures .0)) in
+    let fed = Fed (c .before .before .before) in
+    let filled = Filled fed in
+    let start = Start filled in
+    let room = chunk-within _ (filled .fill .result) (filled .fill .kept .0) (start .pre) in
     rw (c .before .flush .ensures) (
-      ap (λ (t : State). flushed t) fed,
-      record { whole = c .before .before .before .before .before .before .before .before .before .before .before .before .before .before .before .before .before .before .before .before .before .before .before .before .before .before .before .before .before .before .before .before .before .before .before .before .pre .whole; held = c .before .before .before .before .before .before .before .before .before .before .before .before .before .before .before .before .feed .ensures .1 room .held; room = omega (arith, c .before .before .before .before .before .before .before .before .before .before .before .before .before .before .before .before .before .before .before .before .before .before .before .before .before .before .before .before .before .before .before .before .before .before .before .before .pre .room) },
+      ap (λ (t : State). flushed t) (fed-chunk (filled .fill .result) _ room _ _ _ (fed .feed .ensures .0)),
+      record { whole = start .pre .whole; held = fed .feed .ensures .1 room .held; room = omega (arith, start .pre .room) },
     )
 
 pub turn-spec : {M : Type 1} → statement M
