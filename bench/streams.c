@@ -3,9 +3,11 @@
 // First some thousand small hostile rings are run by both devices and compared whole. Before a stream is timed, each contender runs it from
 // one screen and has to end with the same screen, and the devices with the same fence; then all run in turn, and the median of all rounds
 // counts. A device is made and set up anew for each stream, which is timed with it.
+// With BEFORE_ABI the device of an older archive is a contender too: `bench/run --before LIB`.
 // The exit status is 1 if anything differs, and 0 otherwise: a missed target is only marked in the table.
 //
 //   streams [ROUNDS]        (default 50)
+#include "before.h"
 #include "both.h"
 #include "common.h"
 
@@ -148,6 +150,18 @@ static uint64_t c_device(void) {
     c_set_up(&lent);
     return c_run(&lent, ALL);
 }
+#ifdef BEFORE_ABI
+static uint32_t before_device[SVGA_DEVICE_WORDS];
+
+static uint64_t before(void) {
+    const uint32_t writes[][2] = {{SVGA_REG_WIDTH, WIDTH}, {SVGA_REG_HEIGHT, HEIGHT}, {SVGA_REG_ENABLE, 1}, {SVGA_REG_CONFIG_DONE, 1}};
+    before_make(before_device, SVGA_DEVICE_WORDS, RING_WORDS * 4, PIXELS);
+    for (size_t i = 0; i < COUNT(writes); i++)
+        before_write(before_device, SVGA_DEVICE_WORDS, ring, RING_WORDS, writes[i][0], writes[i][1]);
+    return before_run(before_device, SVGA_DEVICE_WORDS, ring, RING_WORDS, framebuffer, PIXELS, screen, PIXELS, lent.cursor, SVGA_CURSOR_WORDS,
+                      ALL);
+}
+#endif
 
 static bool apart(const struct job *j) {
     return j->to.x + j->to.w <= j->from.x || j->from.x + j->to.w <= j->to.x || j->to.y + j->to.h <= j->from.y || j->from.y + j->to.h <= j->to.y;
@@ -181,21 +195,34 @@ static uint64_t by_rows(void) {
 
 // ---- timing
 
-enum { CONTENDERS = 4 };
-static uint64_t (*const contender[CONTENDERS])(void) = {ours, c_device, by_pixman, by_rows};
-static const double TARGET = 1.0;
+enum { OURS, C_DEVICE, PIXMAN, ROWS, BEFORE, MOST_CONTENDERS };
+static uint64_t (*const contender[])(void) = {
+    ours, c_device, by_pixman, by_rows,
+#ifdef BEFORE_ABI
+    before,
+#endif
+};
+enum { CONTENDERS = COUNT(contender), HAS_BEFORE = CONTENDERS > BEFORE };
+static const double TARGET = 1.0, TARGET_BEFORE = 1.05;
 
 // Runs one contender from the stream's start; a device has to consume every command.
 static bool run_stream(int c) {
     ring[SVGA_FIFO_STOP] = start_of_stream() * 4;
     uint64_t ended = contender[c]();
-    bool parses = c < 2;
-    if (!parses) return true;
+    if (c == PIXMAN || c == ROWS) return true;
     return svga_answer_of(ended) == SVGA_ANSWER_DRAINED && svga_value_of(ended) == job_count &&
            ring[SVGA_FIFO_STOP] == ring[SVGA_FIFO_NEXT_CMD];
 }
 
-// Whether all contenders, from one screen, end with one screen, and both devices with one fence.
+// Whether all devices keep the same fence, and ours and the C device the same cursor.
+static bool devices_keep_alike(void) {
+#ifdef BEFORE_ABI
+    if (before_fence(before_device, SVGA_DEVICE_WORDS) != svga_fence(device, SVGA_DEVICE_WORDS)) return false;
+#endif
+    return both_keep_alike();
+}
+
+// Whether all contenders, from one screen, end with one screen, and the devices with one fence.
 static bool all_agree(void) {
     for (int c = 0; c < CONTENDERS; c++) {
         memcpy(screen, old_screen, PIXELS * sizeof *screen);
@@ -203,7 +230,7 @@ static bool all_agree(void) {
         if (c == 0) memcpy(first_screen, screen, PIXELS * sizeof *screen);
         if (memcmp(first_screen, screen, PIXELS * sizeof *screen)) return false;
     }
-    return both_keep_alike();
+    return devices_keep_alike();
 }
 
 // The contenders in an order by chance, so that what the last one left in the caches favours none. The seed is not rand's: each process has
@@ -217,9 +244,9 @@ static void shuffle(int *order) {
 }
 
 static bool measure(enum kind kind, int rounds) {
-    struct times times[CONTENDERS] = {0};
-    double typical[CONTENDERS];
-    int order[CONTENDERS] = {0};
+    struct times times[MOST_CONTENDERS] = {0};
+    double typical[MOST_CONTENDERS];
+    int order[MOST_CONTENDERS] = {0};
     make_stream(kind);
     bool agree = all_agree();
     for (int round = 0; agree && round < rounds; round++) {
@@ -230,15 +257,19 @@ static bool measure(enum kind kind, int rounds) {
             add_time(&times[order[i]], (now_ns() - start) / (double)job_count);
         }
     }
-    if (!agree || !both_keep_alike()) {
+    if (!agree || !devices_keep_alike()) {
         printf("MISMATCH: %s\n", kind_name[kind]);
         return false;
     }
     for (int c = 0; c < CONTENDERS; c++) typical[c] = median(&times[c]), free(times[c].t);
-    printf("| %s | %zu | %.1f | %.1f |", kind_name[kind], job_count, typical[0], typical[1]);
-    print_ratio(typical[0] / typical[1], TARGET);
+    printf("| %s | %zu | %.1f | %.1f |", kind_name[kind], job_count, typical[OURS], typical[C_DEVICE]);
+    print_ratio(typical[OURS] / typical[C_DEVICE], TARGET);
+    if (HAS_BEFORE) {
+        printf(" %.1f |", typical[BEFORE]);
+        print_ratio(typical[OURS] / typical[BEFORE], TARGET_BEFORE);
+    }
     if (kind == FENCES) printf(" | |\n");
-    else printf(" %.1f | %.1f |\n", typical[2], typical[3]);
+    else printf(" %.1f | %.1f |\n", typical[PIXMAN], typical[ROWS]);
     return true;
 }
 
@@ -255,8 +286,9 @@ int main(int argc, char **argv) {
     for (size_t i = 0; i < PIXELS; i++) framebuffer[i] ^= 0x5A5A5A;
     lent = (struct lent){ring, RING_WORDS, framebuffer, screen, PIXELS, new_words(SVGA_CURSOR_WORDS), WIDTH, HEIGHT};
 
-    printf("| Stream, %dx%d | commands | ours, ns each | C device, ns | Ratio | Target | pixman directly, ns | rows directly, ns |\n"
-           "|---|---|---|---|---|---|---|---|\n", WIDTH, HEIGHT);
+    printf("| Stream, %dx%d | commands | ours, ns each | C device, ns | Ratio | Target |%s pixman directly, ns | rows directly, ns |\n"
+           "|---|---|---|---|---|---|%s---|---|\n", WIDTH, HEIGHT, HAS_BEFORE ? " before, ns | Ratio | Target |" : "",
+           HAS_BEFORE ? "---|---|---|" : "");
     for (enum kind kind = FENCES; kind <= MIXED; kind++)
         if (!measure(kind, rounds)) return 1;
     return 0;
