@@ -6,7 +6,7 @@
 // With BEFORE_ABI the device of an older archive is a contender too: `bench/run --before LIB`.
 // The exit status is 1 if anything differs, and 0 otherwise: a missed target is only marked in the table.
 //
-//   streams [ROUNDS]        (default 50)
+//   streams [ROUNDS]        (default 50; ten times as many for fences and 1x1 fills)
 #include "before.h"
 #include "both.h"
 #include "common.h"
@@ -248,6 +248,7 @@ static bool measure(enum kind kind, int rounds) {
     double typical[MOST_CONTENDERS];
     int order[MOST_CONTENDERS] = {0};
     make_stream(kind);
+    if (kind == FENCES || kind == FILLS_1) rounds *= 10; // theirs take a millisecond
     bool agree = all_agree();
     for (int round = 0; agree && round < rounds; round++) {
         shuffle(order);
