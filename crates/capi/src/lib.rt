@@ -10,6 +10,7 @@ ghost use lib.ListN.{length};
 ghost use Rattle.register_read.specs.Registers.{bit, readOf};
 ghost use Rattle.adapter.specs.Fence.{fenceOf, fencePassed};
 ghost use Rattle.ring.specs.Append.{appendOf};
+ghost use Rattle.device_run.specs.Run.{lentBefore, lentAfter};
 ghost use Rattle.capi.specs.Calls.{packed, call, makeIn, writeIn, readIn, runCall, runIn, pictureIn, edgesCall, edgeWords, edgesHeld, offscreenIn, fenceIn, passedIn};
 
 fn pack(answer: u32, value: u32) -> u64
@@ -107,7 +108,8 @@ pub extern "C" fn svga_run(
     cursor: &mut [u32],
     budget: u32,
 ) -> u64
-    ensures { λ r. ⌜ runCall r (now (device .exit)) (now (ring .exit)) (now (screen .exit)) (now (cursor .exit)) ≡ runIn (now (device .entry)) (now (ring .entry)) (now (framebuffer .entry)) (now (screen .entry)) (now (cursor .entry)) budget ⌝ }
+    ensures { λ r. ⌜ runCall r (now (device .exit)) (lentAfter ring framebuffer screen cursor)
+        ≡ runIn (now (device .entry)) (lentBefore ring framebuffer screen cursor) budget ⌝ }
 {
     if device.len() != 64 {
         return pack(20, 0);

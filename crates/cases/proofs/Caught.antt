@@ -102,9 +102,9 @@ run-number s g budget ring m =
 
 pub not-refused : NotRefused
 unfolding runBy
-not-refused d ring framebuffer screen cursor budget c =
-    rw (run-by d ring framebuffer screen cursor budget (Running (c .place)) (c .well) (c .lent) (c .configured) (c .enabled) (c .fits) (c .running))
-    (run-number _ (c .place) budget ring _)
+not-refused d l budget c =
+    rw (run-by d l budget (Running (c .place)) (c .well) (c .right) (c .configured) (c .enabled) (c .fits) (c .running))
+    (run-number _ (c .place) budget (l .ring) _)
 
 pub one-fence : OneFence
 unfolding sizesGood modeGood ringGood conditionGood definedGood made lentGood runOf runBy conditionAfter busyAfter runIn runWords left stamped fitting placed nextGood turnIn after ahead between words waiting runs unless turnOf kindOf headWords sizeOf headGood operandsGood actionOf decoded commands E.done screenAfter cursorAfter marksAfter

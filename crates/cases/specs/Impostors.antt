@@ -20,7 +20,7 @@ use Rattle.device.specs.declared.Condition.the-variants.{Idle, Running}
 use Rattle.device.specs.declared.Device.{Device}
 use Rattle.device.specs.Device.{pixelsOf, widthOf, heightOf, freshRegisters, made}
 use Rattle.register_write.specs.Registers.{setMode, setState}
-use Rattle.device_run.specs.Run.{lentGood, runOf}
+use Rattle.device_run.specs.Run.{Lent, lent, lentGood, runOf}
 use Rattle.adapter.specs.Picture.{pictureOf}
 use Rattle.cases.specs.Cases.{smallest}
 
@@ -79,9 +79,9 @@ module _ (s : Scene) (m : Machine) where
 -- ---- runs of a device, by `runOf`, to which `adapter::run` is held
 
 -- A device that none of the refusals 20 to 24 concerns.
-pub record CanRun (d : Device) (ring framebuffer screen cursor : List ℕ) : Type 0 where
+pub record CanRun (d : Device) (l : Lent) : Type 0 where
   pub well : made d ≡ true
-  pub lent : lentGood d (length ring) (length framebuffer) (length screen) (length cursor) ≡ true
+  pub right : lentGood d l ≡ true
   pub configured : d .registers .config ≡ true
   pub enabled : d .registers .enable ≡ true
   pub fits : leb (widthOf d * heightOf d) (pixelsOf d) ≡ true
@@ -90,9 +90,7 @@ pub record CanRun (d : Device) (ring framebuffer screen cursor : List ℕ) : Typ
 
 -- "a run that refuses everything": there a run answers 0, 1, 2 or a fault, of any budget.
 abbrev pub NotRefused : Type 0
-NotRefused =
-    (d : Device) (ring framebuffer screen cursor : List ℕ) (budget : ℕ) → CanRun d ring framebuffer screen cursor
-    → runOf d ring framebuffer screen cursor budget .answer ≤ 13
+NotRefused = (d : Device) (l : Lent) (budget : ℕ) → CanRun d l → runOf d l budget .answer ≤ 13
 
 -- A device in the mode 4 by 1, enabled, and configured with the smallest ring; its last fence, and STOP in words.
 abbrev pub device : ℕ → ℕ → Device
@@ -115,8 +113,8 @@ twoFences stop rest = 16 ∷ 10256 ∷ 32 ∷ stop ∷ 30 ∷ 7 ∷ 30 ∷ 8 ∷
 abbrev pub OneFence : Type 0
 OneFence =
     (rest framebuffer screen cursor : List ℕ) → length rest ≡ 2556 → length framebuffer ≡ 4 → length screen ≡ 4 → length cursor ≡ 4096
-    → runOf (device 0 4) (twoFences 16 rest) framebuffer screen cursor 1
-    ≡ record { answer = 2; count = 1; device = device 7 6; ring = twoFences 24 rest; screen = screen; cursor = cursor }
+    → runOf (device 0 4) (lent (twoFences 16 rest) framebuffer screen cursor) 1
+    ≡ record { answer = 2; count = 1; device = device 7 6; lent = lent (twoFences 24 rest) framebuffer screen cursor }
 
 -- ---- pictures
 

@@ -41,7 +41,7 @@ use Rattle.register_read.specs.Answers.{Reading}
 use Rattle.adapter.specs.Picture.{Pictured, pictureOf}
 use Rattle.register_read.specs.Registers.{readBy, readOf}
 use Rattle.register_write.specs.Registers.{written}
-use Rattle.device_run.specs.Run.{RunOutcome, machineOf, ran, refusedRun, runBy, runOf}
+use Rattle.device_run.specs.Run.{Lent, RunOutcome, machineOf, ran, refusedRun, runBy, runOf}
 use Rattle.device.proofs.Kept.{make-refused}
 use Rattle.register_write.proofs.Refusals as WriteRefusals
 use Rattle.register_read.proofs.Refusals as ReadRefusals
@@ -163,46 +163,46 @@ module _ (d : Device) (index : ℕ) where
 
 -- ---- run
 
-module _ (d : Device) (ring framebuffer screen cursor : List ℕ) (budget : ℕ) where
-  -- `adapter::run` equals `device_run/Run.runOf`: an answer, a count, and the device, ring memory, screen and cursor image that are left
+module _ (d : Device) (l : Lent) (budget : ℕ) where
+  -- `adapter::run` equals `device_run/Run.runOf`: an answer, a count, and the device and lent memories that are left
   abbrev run : RunOutcome
-  run = runOf d ring framebuffer screen cursor budget
+  run = runOf d l budget
 
   -- "A run checks 20, 22, 21, 24, 23 in that order"
-  pub run-20 : made d ≡ true → (run .answer ≡ 20) ↔ Run20 d ring framebuffer screen cursor
+  pub run-20 : made d ≡ true → (run .answer ≡ 20) ↔ Run20 d l
   unfolding runOf
-  run-20 m = (run-why d ring framebuffer screen cursor m budget 20, λ x. rw (m, not-lent d ring framebuffer screen cursor .1 x))
+  run-20 m = (run-why d l m budget 20, λ x. rw (m, not-lent d l .1 x))
 
-  pub run-22 : made d ≡ true → (run .answer ≡ 22) ↔ Run22 d ring framebuffer screen cursor
+  pub run-22 : made d ≡ true → (run .answer ≡ 22) ↔ Run22 d l
   unfolding runOf
-  run-22 m = (run-why d ring framebuffer screen cursor m budget 22, λ x. rw (m, is-lent d ring framebuffer screen cursor .1 (x .0), x .1))
+  run-22 m = (run-why d l m budget 22, λ x. rw (m, is-lent d l .1 (x .0), x .1))
 
-  pub run-21 : made d ≡ true → (run .answer ≡ 21) ↔ Run21 d ring framebuffer screen cursor
+  pub run-21 : made d ≡ true → (run .answer ≡ 21) ↔ Run21 d l
   unfolding runOf
-  run-21 m = (run-why d ring framebuffer screen cursor m budget 21, λ x. rw (m, is-lent d ring framebuffer screen cursor .1 (x .0), x .1, x .2))
+  run-21 m = (run-why d l m budget 21, λ x. rw (m, is-lent d l .1 (x .0), x .1, x .2))
 
-  pub run-24 : made d ≡ true → (run .answer ≡ 24) ↔ Run24 d ring framebuffer screen cursor
+  pub run-24 : made d ≡ true → (run .answer ≡ 24) ↔ Run24 d l
   unfolding runOf
   run-24 m = (
-    run-why d ring framebuffer screen cursor m budget 24,
-    λ x. rw (m, is-lent d ring framebuffer screen cursor .1 (x .0), x .1, x .2, lt-leb _ _ (x .3)),
+    run-why d l m budget 24,
+    λ x. rw (m, is-lent d l .1 (x .0), x .1, x .2, lt-leb _ _ (x .3)),
   )
 
-  pub run-23 : made d ≡ true → (run .answer ≡ 23) ↔ Run23 d ring framebuffer screen cursor
+  pub run-23 : made d ≡ true → (run .answer ≡ 23) ↔ Run23 d l
   unfolding runBy
   run-23 m = (
-    run-why d ring framebuffer screen cursor m budget 23,
+    run-why d l m budget 23,
     λ x.
-        let l = is-lent d ring framebuffer screen cursor .1 (x .0) in
-        rw (run-by d ring framebuffer screen cursor budget (Faulted (x .4 .0)) m l (x .1) (x .2) (le-leb _ _ (x .3)) (x .4 .1)),
+        let right = is-lent d l .1 (x .0) in
+        rw (run-by d l budget (Faulted (x .4 .0)) m right (x .1) (x .2) (le-leb _ _ (x .3)) (x .4 .1)),
   )
 
   -- else it is not refused, and starts
-  pub run-taken : made d ≡ true → (isRefusal (run .answer) ≡ false) ↔ ((g : Ring) × Starts d ring framebuffer screen cursor g)
+  pub run-taken : made d ≡ true → (isRefusal (run .answer) ≡ false) ↔ ((g : Ring) × Starts d l g)
   unfolding isRefusal
   run-taken m = (
-    by-refusals d ring framebuffer screen cursor budget
-        (λ (o : RunOutcome). isRefusal (o .answer) ≡ false → (g : Ring) × Starts d ring framebuffer screen cursor g)
+    by-refusals d l budget
+        (λ (o : RunOutcome). isRefusal (o .answer) ≡ false → (g : Ring) × Starts d l g)
         (not-both (made d) m)
         (λ x e. absurd (false≢true (sym e)))
         (λ x e. absurd (false≢true (sym e)))
@@ -210,22 +210,21 @@ module _ (d : Device) (ring framebuffer screen cursor : List ℕ) (budget : ℕ)
         (λ x e. absurd (false≢true (sym e)))
         (λ x e. absurd (false≢true (sym e)))
         (λ n g s e. (g, s)),
-    λ x. rw (start d ring framebuffer screen cursor m (x .0) budget (x .1)) (ended-taken _ (start-ended d ring framebuffer screen cursor m (x .0) budget (x .1))),
+    λ x. rw (start d l m (x .0) budget (x .1)) (ended-taken _ (start-ended d l m (x .0) budget (x .1))),
   )
 
-  -- "Answers 20 to 34 change nothing; a run's count is then 0": device, ring memory, screen and cursor image are as they were
-  pub run-nothing : isRefusal (run .answer) ≡ true
-      → run ≡ record { answer = run .answer; count = 0; device = d; ring = ring; screen = screen; cursor = cursor }
+  -- "Answers 20 to 34 change nothing; a run's count is then 0": the device and every lent memory are as they were
+  pub run-nothing : isRefusal (run .answer) ≡ true → run ≡ record { answer = run .answer; count = 0; device = d; lent = l }
   run-nothing =
-      by-refusals d ring framebuffer screen cursor budget
-      (λ (o : RunOutcome). isRefusal (o .answer) ≡ true → o ≡ refusedRun d ring framebuffer screen cursor (o .answer))
+      by-refusals d l budget
+      (λ (o : RunOutcome). isRefusal (o .answer) ≡ true → o ≡ refusedRun d l (o .answer))
       (λ f e. refl)
       (λ x e. refl)
       (λ x e. refl)
       (λ x e. refl)
       (λ x e. refl)
       (λ x e. refl)
-      (λ m g s e. not-both _ e (ended-taken _ (start-ended d ring framebuffer screen cursor m g budget s)))
+      (λ m g s e. not-both _ e (ended-taken _ (start-ended d l m g budget s)))
 
   -- a device that no call can have made is not configured
   pub run-unmade : made d ≡ false → run .answer ≡ 22
@@ -233,40 +232,40 @@ module _ (d : Device) (ring framebuffer screen cursor : List ℕ) (budget : ℕ)
   run-unmade f = rw f
 
   -- A run that starts, on the ring g.
-  module _ (m : made d ≡ true) (g : Ring) (s : Starts d ring framebuffer screen cursor g) where
+  module _ (m : made d ≡ true) (g : Ring) (s : Starts d l g) where
     -- it is `run/Run.runIn`: what it leaves is said there
-    pub run-starts : run ≡ ran d (runIn (scene (widthOf d) (heightOf d) framebuffer) g budget ring (machineOf d screen cursor))
-    run-starts = start d ring framebuffer screen cursor m g budget s
+    pub run-starts : run ≡ ran d l (runIn (scene (widthOf d) (heightOf d) (l .framebuffer)) g budget (l .ring) (machineOf d l))
+    run-starts = start d l m g budget s
 
     -- it answers 0, 1, 2, or 10 to 13
     pub run-answers : (run .answer ≤ 2) ⊎ ((10 ≤ run .answer) × (run .answer ≤ 13))
-    run-answers = rw run-starts (start-ended d ring framebuffer screen cursor m g budget s)
+    run-answers = rw run-starts (start-ended d l m g budget s)
 
     -- "budget used up: 2"
     pub run-2 : (run .answer ≡ 2) ↔ (run .count ≡ budget)
-    run-2 = rw run-starts (stops-2 _ (run-stops _ g budget ring (machineOf d screen cursor) (start-fits d ring framebuffer screen cursor m g budget s)))
+    run-2 = rw run-starts (stops-2 _ (run-stops _ g budget (l .ring) (machineOf d l) (start-fits d l m g budget s)))
 
     -- "NEXT_CMD not a multiple of 4 or outside the ring: 13", where the budget is not used up
-    pub run-13 : (run .answer ≡ 13) ↔ ((¬ NextUsable g (nextOf ring)) × (¬ (budget ≡ 0)))
+    pub run-13 : (run .answer ≡ 13) ↔ ((¬ NextUsable g (nextOf (l .ring))) × (¬ (budget ≡ 0)))
     run-13 =
-        let u = fails (nextGood g (nextOf ring)) (next-usable g (nextOf ring)) in
-        let w = Reasons.run-13 _ g budget ring (machineOf d screen cursor) (start-fits d ring framebuffer screen cursor m g budget s) (ring-carries d m g (s .1) (s .4)) in
+        let u = fails (nextGood g (nextOf (l .ring))) (next-usable g (nextOf (l .ring))) in
+        let w = Reasons.run-13 _ g budget (l .ring) (machineOf d l) (start-fits d l m g budget s) (ring-carries d m g (s .1) (s .4)) in
         rw run-starts (λ e. let x = w .0 e in (u .0 (x .0), x .1), λ x. w .1 (u .1 (x .0), x .1))
 
     pub run-13-count : run .answer ≡ 13 → run .count ≡ 0
     run-13-count e =
-        let u = fails (nextGood g (nextOf ring)) (next-usable g (nextOf ring)) in
+        let u = fails (nextGood g (nextOf (l .ring))) (next-usable g (nextOf (l .ring))) in
         rw run-starts
-        (run-lost-count _ g budget ring (machineOf d screen cursor) (start-fits d ring framebuffer screen cursor m g budget s) (u .1 (run-13 .0 e .0)))
+        (run-lost-count _ g budget (l .ring) (machineOf d l) (start-fits d l m g budget s) (u .1 (run-13 .0 e .0)))
 
     -- "a run of budget b answers as count c the smaller of b and the number of those steps. Its number is 2 if c = b, else the answer that ends straight
     -- execution there": 0, 1, 10, 11 or 12
-    pub run-count : NextUsable g (nextOf ring)
-        → (run .count ≡ min budget (whole (turnFor d framebuffer g) (lineOf d ring screen cursor g)))
-        × (run .answer ≡ answerNumber (verdict (eqb (run .count) budget) (ending (turnFor d framebuffer g) (lineOf d ring screen cursor g))))
+    pub run-count : NextUsable g (nextOf (l .ring))
+        → (run .count ≡ min budget (whole (turnFor d l g) (lineOf d l g)))
+        × (run .answer ≡ answerNumber (verdict (eqb (run .count) budget) (ending (turnFor d l g) (lineOf d l g))))
     run-count u =
-        let good = next-usable g (nextOf ring) .1 u in
-        let w = Reasons.run-many _ g budget ring (machineOf d screen cursor) (start-fits d ring framebuffer screen cursor m g budget s) good (ring-carries d m g (s .1) (s .4)) in
+        let good = next-usable g (nextOf (l .ring)) .1 u in
+        let w = Reasons.run-many _ g budget (l .ring) (machineOf d l) (start-fits d l m g budget s) good (ring-carries d m g (s .1) (s .4)) in
         rw run-starts (w .0, ap answerNumber (w .1))
 
     -- "A fault .. stands until CONFIG_DONE 1 is accepted": one stands after the run exactly when the run answered it, and has that number
@@ -275,15 +274,15 @@ module _ (d : Device) (ring framebuffer screen cursor : List ℕ) (budget : ℕ)
 
 -- ---- one turn of a run, on the words w that wait in the ring g; its numbers are `order/Straight.endNumber`
 
-module _ (d : Device) (framebuffer : List ℕ) (g : Ring) (m : Machine) (w : List ℕ) where
+module _ (d : Device) (l : Lent) (g : Ring) (m : Machine) (w : List ℕ) where
   abbrev cap : ℕ
   cap = carried (g .min) (g .max)
 
   abbrev turn : Turn Machine
-  turn = turnFor d framebuffer g m w
+  turn = turnFor d l g m w
 
   abbrev does : Action → List ℕ → Machine → Machine
-  does = done (widthOf d) (heightOf d) framebuffer
+  does = done (widthOf d) (heightOf d) (l .framebuffer)
 
   -- "NEXT_CMD = STOP: 0."
   pub turn-0 : (turn ≡ ends Drained) ↔ Turn0 w

@@ -36,10 +36,10 @@ use Rattle.device.specs.declared.Condition.the-variants.{Idle, Running, Faulted
 use Rattle.device.specs.declared.Device.{Device}
 use Rattle.device.specs.Device.{memoryOf, pixelsOf, configuredOf, conditionOf, sizesGood, ringGood, conditionGood, made}
 use Rattle.adapter.specs.Picture.{lengthsGood}
-use Rattle.device_run.specs.Run.{lentGood, conditionAfter}
+use Rattle.device_run.specs.Run.{Lent, lentGood, conditionAfter}
 use Rattle.device.proofs.Laws.{well-formed}
 use Rattle.register_write.proofs.Refusals.{inRange}
-use Rattle.demands.specs.Refusing.{Sizes, Ranged, Lent, NextUsable, PictureLent}
+use Rattle.demands.specs.Refusing.{Sizes, Ranged, RunLent, NextUsable, PictureLent}
 
 pub clash : _≡_ {A = ℕ} 0 1 → ⊥
 clash z = omega arith
@@ -77,10 +77,9 @@ pub not-usable : (ring : List ℕ) → (usable ring ≡ false) ↔ (¬ Usable ri
 not-usable ring = fails (usable ring) (ring-usable ring)
 
 module _ (d : Device) where
-  pub lent-good : (ring framebuffer screen cursor : List ℕ)
-      → (lentGood d (length ring) (length framebuffer) (length screen) (length cursor) ≡ true) ↔ Lent d ring framebuffer screen cursor
+  pub lent-good : (l : Lent) → (lentGood d l ≡ true) ↔ RunLent d l
   unfolding lentGood
-  lent-good ring framebuffer screen cursor = (
+  lent-good l = (
     λ e.
         let a = both _ _ e in
         let b = both _ _ (a .1) in
@@ -295,16 +294,17 @@ module _ (d : Device) (m : made d ≡ true) where
     pub ring-carries : 8 ≤ carried (g .min) (g .max)
     ring-carries = let b = ring-bounds in omega arith
 
-    pub ring-fits : (ring cursor : List ℕ) → length ring ≡ memoryOf d / 4 → length cursor ≡ 4096 → fitting g (length ring) (length cursor) ≡ true
+    pub ring-fits : (l : Lent) → RunLent d l → fitting g (length (l .ring)) (length (l .cursor)) ≡ true
     unfolding fitting placed
-    ring-fits ring cursor l k =
+    ring-fits l s =
         let b = ring-bounds in
+        let long = s .0 in
         let w = well-formed d m in
         rw (
           le-leb 4 (g .min) (b .0),
           le-leb (g .min) (g .stop) (b .3),
           lt-ltb (g .stop) (g .max) (b .4),
           le-leb (g .max) 524288 (omega (arith, b .1, w .memory-high)),
-          le-leb (g .max) (length ring) (omega (arith, b .1)),
+          le-leb (g .max) (length (l .ring)) (omega (arith, b .1)),
         )
-        (eq-eqb (length cursor) 4096 k)
+        (eq-eqb (length (l .cursor)) 4096 (s .3))

@@ -1,7 +1,7 @@
 -- The rule of each number that a register write or a run answers, as one family: an answer's rule holds.
 -- Assumes nothing.
 use mathlib.Core.Path.{_≡_, refl, sym, ap, subst, _∙_}
-use mathlib.Core.Bool.{Bool, true, false, cond}
+use mathlib.Core.Bool.{true, false, cond}
 use mathlib.Core.List.{List}
 use mathlib.Core.Logic.{_↔_, _⊎_, inl, inr, ⊎-elim}
 use Prim.Native.Nat.{ℕ, _*_, _≤_}
@@ -29,10 +29,10 @@ use Rattle.device.specs.declared.Condition.the-variants.{Idle, Running, Faulted
 use Rattle.device.specs.declared.Device.{Device}
 use Rattle.device.specs.Device.{pixelsOf, widthOf, heightOf, enabledOf, configuredOf, conditionOf, made}
 use Rattle.register_write.specs.Registers.{written}
-use Rattle.device_run.specs.Run.{RunOutcome, lentGood, machineOf, ran, refusedRun, runBy, runOf}
+use Rattle.device_run.specs.Run.{Lent, RunOutcome, lentGood, machineOf, ran, refusedRun, runBy, runOf}
 use Rattle.register_write.proofs.Refusals.{Why, no-register, read-only, bad-value, wrong-length, ring-refused, is-taken, why}
 use Rattle.device_run.proofs.RunLaws.{run-by}
-use Rattle.demands.specs.Refusing.{isRefusal, Write30, Write31, Write32, Write20, Write33, Write0, Lent, Run20, Run22, Run21, Run24, Run23, Starts}
+use Rattle.demands.specs.Refusing.{isRefusal, Write30, Write31, Write32, Write20, Write33, Write0, RunLent, Run20, Run22, Run21, Run24, Run23, Starts}
 use Rattle.demands.specs.Refusing.{kindIn, Turn0, Turn10, HeadMissing, HeadThere, HeadBad, Turn12, WordsMissing, WordsThere, OperandBad, Executes}
 use Rattle.demands.proofs.Reasons.{by-cond, not-both, fails, ring-usable, not-usable, lent-good, ranged}
 use Rattle.demands.proofs.Reasons.{stops-numbers, run-stops, not-idle, ring-fits}
@@ -71,72 +71,69 @@ pub ended-taken : (a : ℕ) → Ended a → isRefusal a ≡ false
 unfolding isRefusal
 ended-taken a x = rw (lt-leb 20 a (⊎-elim (λ l. omega arith) (λ r. omega arith) x))
 
-module _ (d : Device) (ring framebuffer screen cursor : List ℕ) where
-  abbrev lent : Bool
-  lent = lentGood d (length ring) (length framebuffer) (length screen) (length cursor)
+module _ (d : Device) (l : Lent) where
+  pub is-lent : (lentGood d l ≡ true) ↔ RunLent d l
+  is-lent = lent-good d l
 
-  pub is-lent : (lent ≡ true) ↔ Lent d ring framebuffer screen cursor
-  is-lent = lent-good d ring framebuffer screen cursor
-
-  pub not-lent : (lent ≡ false) ↔ (¬ Lent d ring framebuffer screen cursor)
-  not-lent = fails lent is-lent
+  pub not-lent : (lentGood d l ≡ false) ↔ (¬ RunLent d l)
+  not-lent = fails (lentGood d l) is-lent
 
   -- what a run that starts does
   abbrev pub started : Ring → ℕ → Outcome
-  started g budget = runIn (scene (widthOf d) (heightOf d) framebuffer) g budget ring (machineOf d screen cursor)
+  started g budget = runIn (scene (widthOf d) (heightOf d) (l .framebuffer)) g budget (l .ring) (machineOf d l)
 
-  module _ (m : made d ≡ true) (g : Ring) (budget : ℕ) (s : Starts d ring framebuffer screen cursor g) where
-    pub start : runOf d ring framebuffer screen cursor budget ≡ ran d (started g budget)
+  module _ (m : made d ≡ true) (g : Ring) (budget : ℕ) (s : Starts d l g) where
+    pub start : runOf d l budget ≡ ran d l (started g budget)
     unfolding runBy
-    start = run-by d ring framebuffer screen cursor budget (Running g) m (is-lent .1 (s .0)) (s .1) (s .2) (le-leb _ _ (s .3)) (s .4)
+    start = run-by d l budget (Running g) m (is-lent .1 (s .0)) (s .1) (s .2) (le-leb _ _ (s .3)) (s .4)
 
-    pub start-fits : fitting g (length ring) (length cursor) ≡ true
-    start-fits = ring-fits d m g (s .1) (s .4) ring cursor (s .0 .0) (s .0 .3)
+    pub start-fits : fitting g (length (l .ring)) (length (l .cursor)) ≡ true
+    start-fits = ring-fits d m g (s .1) (s .4) l (s .0)
 
     pub start-ended : Ended (answerNumber (started g budget .answer))
-    start-ended = stops-numbers _ (run-stops _ g budget ring (machineOf d screen cursor) start-fits)
+    start-ended = stops-numbers _ (run-stops _ g budget (l .ring) (machineOf d l) start-fits)
 
   module _ (budget : ℕ) where
     -- a run by its refusals, in document 01's order
-    pub by-refusals : (P : RunOutcome → Type 0) → (made d ≡ false → P (refusedRun d ring framebuffer screen cursor 22))
-        → (Run20 d ring framebuffer screen cursor → P (refusedRun d ring framebuffer screen cursor 20))
-        → (Run22 d ring framebuffer screen cursor → P (refusedRun d ring framebuffer screen cursor 22))
-        → (Run21 d ring framebuffer screen cursor → P (refusedRun d ring framebuffer screen cursor 21))
-        → (Run24 d ring framebuffer screen cursor → P (refusedRun d ring framebuffer screen cursor 24))
-        → (Run23 d ring framebuffer screen cursor → P (refusedRun d ring framebuffer screen cursor 23))
-        → (made d ≡ true → (g : Ring) → Starts d ring framebuffer screen cursor g → P (ran d (started g budget)))
-        → P (runOf d ring framebuffer screen cursor budget)
+    pub by-refusals : (P : RunOutcome → Type 0) → (made d ≡ false → P (refusedRun d l 22))
+        → (Run20 d l → P (refusedRun d l 20))
+        → (Run22 d l → P (refusedRun d l 22))
+        → (Run21 d l → P (refusedRun d l 21))
+        → (Run24 d l → P (refusedRun d l 24))
+        → (Run23 d l → P (refusedRun d l 23))
+        → (made d ≡ true → (g : Ring) → Starts d l g → P (ran d l (started g budget)))
+        → P (runOf d l budget)
     unfolding runOf runBy
     by-refusals P unmade on-20 on-22 on-21 on-24 on-23 starts =
         by-cond P (made d)
         (λ m.
-        by-cond P lent
-        (λ l.
+        by-cond P (lentGood d l)
+        (λ n.
         by-cond P (configuredOf d)
         (λ c.
         by-cond P (enabledOf d)
         (λ e.
         by-cond P (leb (widthOf d * heightOf d) (pixelsOf d))
-        (λ f. go m (is-lent .0 l) c e (leb-true _ _ f) (conditionOf d) refl)
-        (λ f. on-24 (is-lent .0 l, c, e, leb-false _ _ f)))
-        (λ e. on-21 (is-lent .0 l, c, e)))
-        (λ c. on-22 (is-lent .0 l, c)))
-        (λ l. on-20 (not-lent .0 l)))
+        (λ f. go m (is-lent .0 n) c e (leb-true _ _ f) (conditionOf d) refl)
+        (λ f. on-24 (is-lent .0 n, c, e, leb-false _ _ f)))
+        (λ e. on-21 (is-lent .0 n, c, e)))
+        (λ c. on-22 (is-lent .0 n, c)))
+        (λ n. on-20 (not-lent .0 n)))
         unmade
       where
-        go : made d ≡ true → Lent d ring framebuffer screen cursor → configuredOf d ≡ true → enabledOf d ≡ true
-            → widthOf d * heightOf d ≤ pixelsOf d → (c : Condition) → conditionOf d ≡ c → P (runBy d ring framebuffer screen cursor budget c)
-        go m l c e f Idle q = absurd (not-idle d m c q)
-        go m l c e f (Running g) q = starts m g (l, c, e, f, q)
-        go m l c e f (Faulted k) q = on-23 (l, c, e, f, (k, q))
+        go : made d ≡ true → RunLent d l → configuredOf d ≡ true → enabledOf d ≡ true
+            → widthOf d * heightOf d ≤ pixelsOf d → (c : Condition) → conditionOf d ≡ c → P (runBy d l budget c)
+        go m n c e f Idle q = absurd (not-idle d m c q)
+        go m n c e f (Running g) q = starts m g (n, c, e, f, q)
+        go m n c e f (Faulted k) q = on-23 (n, c, e, f, (k, q))
 
   abbrev RunRule : ℕ → Type 0
   RunRule a =
-      cond (eqb a 20) (Run20 d ring framebuffer screen cursor)
-      (cond (eqb a 22) (Run22 d ring framebuffer screen cursor)
-      (cond (eqb a 21) (Run21 d ring framebuffer screen cursor)
-      (cond (eqb a 24) (Run24 d ring framebuffer screen cursor)
-      (cond (eqb a 23) (Run23 d ring framebuffer screen cursor) (Ended a)))))
+      cond (eqb a 20) (Run20 d l)
+      (cond (eqb a 22) (Run22 d l)
+      (cond (eqb a 21) (Run21 d l)
+      (cond (eqb a 24) (Run24 d l)
+      (cond (eqb a 23) (Run23 d l) (Ended a)))))
 
   ended-rule : (a : ℕ) → Ended a → RunRule a
   ended-rule a x =
@@ -149,7 +146,7 @@ module _ (d : Device) (ring framebuffer screen cursor : List ℕ) where
       )
       x
 
-  pub run-why : made d ≡ true → (budget a : ℕ) → runOf d ring framebuffer screen cursor budget .answer ≡ a → RunRule a
+  pub run-why : made d ≡ true → (budget a : ℕ) → runOf d l budget .answer ≡ a → RunRule a
   run-why m budget a e =
       subst RunRule e
       (by-refusals budget (λ (o : RunOutcome). RunRule (o .answer)) (not-both (made d) m) (λ x. x) (λ x. x) (λ x. x) (λ x. x) (λ x. x)

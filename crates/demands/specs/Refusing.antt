@@ -28,7 +28,7 @@ use Rattle.run.specs.Run.{scene, table}
 use Rattle.device.specs.declared.Condition.the-variants.{Running, Faulted}
 use Rattle.device.specs.declared.Device.{Device}
 use Rattle.device.specs.Device.{memoryOf, pixelsOf, widthOf, heightOf, enabledOf, configuredOf, conditionOf}
-use Rattle.device_run.specs.Run.{machineOf}
+use Rattle.device_run.specs.Run.{Lent, machineOf}
 
 -- "Answers 20 to 34 change nothing"
 unfoldable pub isRefusal : ℕ → Bool
@@ -96,35 +96,39 @@ Read30 index = registerOf index ≡ Absent
 
 -- ---- run: "A run checks 20, 22, 21, 24, 23 in that order"
 
-module _ (d : Device) (ring framebuffer screen cursor : List ℕ) where
+module _ (d : Device) (l : Lent) where
   -- "the ring memory (M/4 words), the framebuffer (P), the screen (P), the cursor image (4,096)"
-  abbrev pub Lent : Type 0
-  Lent = (length ring ≡ memoryOf d / 4) × (length framebuffer ≡ pixelsOf d) × (length screen ≡ pixelsOf d) × (length cursor ≡ 4096)
+  abbrev pub RunLent : Type 0
+  RunLent =
+      (length (l .ring) ≡ memoryOf d / 4)
+      × (length (l .framebuffer) ≡ pixelsOf d)
+      × (length (l .screen) ≡ pixelsOf d)
+      × (length (l .cursor) ≡ 4096)
 
   -- "A lent length that differs is answer 20."
   abbrev pub Run20 : Type 0
-  Run20 = ¬ Lent
+  Run20 = ¬ RunLent
 
   -- "not configured"
   abbrev pub Run22 : Type 0
-  Run22 = Lent × (configuredOf d ≡ false)
+  Run22 = RunLent × (configuredOf d ≡ false)
 
   -- "disabled"
   abbrev pub Run21 : Type 0
-  Run21 = Lent × (configuredOf d ≡ true) × (enabledOf d ≡ false)
+  Run21 = RunLent × (configuredOf d ≡ true) × (enabledOf d ≡ false)
 
   -- "width·height above P"
   abbrev pub Run24 : Type 0
-  Run24 = Lent × (configuredOf d ≡ true) × (enabledOf d ≡ true) × (pixelsOf d < widthOf d * heightOf d)
+  Run24 = RunLent × (configuredOf d ≡ true) × (enabledOf d ≡ true) × (pixelsOf d < widthOf d * heightOf d)
 
   -- "fault already standing"
   abbrev pub Run23 : Type 0
   Run23 =
-      Lent × (configuredOf d ≡ true) × (enabledOf d ≡ true) × (widthOf d * heightOf d ≤ pixelsOf d) × ((c : Cause) × (conditionOf d ≡ Faulted c))
+      RunLent × (configuredOf d ≡ true) × (enabledOf d ≡ true) × (widthOf d * heightOf d ≤ pixelsOf d) × ((c : Cause) × (conditionOf d ≡ Faulted c))
 
   -- none of these: the run starts, on the ring g that was remembered
   abbrev pub Starts : Ring → Type 0
-  Starts g = Lent × (configuredOf d ≡ true) × (enabledOf d ≡ true) × (widthOf d * heightOf d ≤ pixelsOf d) × (conditionOf d ≡ Running g)
+  Starts g = RunLent × (configuredOf d ≡ true) × (enabledOf d ≡ true) × (widthOf d * heightOf d ≤ pixelsOf d) × (conditionOf d ≡ Running g)
 
 -- ---- a run that starts
 
@@ -133,13 +137,13 @@ abbrev pub NextUsable : Ring → ℕ → Type 0
 NextUsable g next = (next % 4 ≡ 0) × (4 * g .min ≤ next) × (next < 4 * g .max)
 
 -- the words that wait from STOP up to a usable NEXT_CMD, with the machine that they work on
-abbrev pub lineOf : Device → List ℕ → List ℕ → List ℕ → Ring → Line Machine
-lineOf d ring screen cursor g =
-    record { words = waiting ring (g .min) (g .max) (g .stop) (nextOf ring / 4); machine = machineOf d screen cursor }
+abbrev pub lineOf : Device → Lent → Ring → Line Machine
+lineOf d l g =
+    record { words = waiting (l .ring) (g .min) (g .max) (g .stop) (nextOf (l .ring) / 4); machine = machineOf d l }
 
 -- what a turn finds in the words that wait
-abbrev pub turnFor : Device → List ℕ → Ring → Machine → List ℕ → Turn Machine
-turnFor d framebuffer g = turnOf (carried (g .min) (g .max)) (table (scene (widthOf d) (heightOf d) framebuffer))
+abbrev pub turnFor : Device → Lent → Ring → Machine → List ℕ → Turn Machine
+turnFor d l g = turnOf (carried (g .min) (g .max)) (table (scene (widthOf d) (heightOf d) (l .framebuffer)))
 
 -- ---- one turn, "in this order", on the words w that wait in a ring that carries cap words
 

@@ -48,7 +48,7 @@ use Rattle.device.specs.declared.Condition.{Condition}
 use Rattle.device.specs.declared.Condition.the-variants.{Idle, Running, Faulted}
 use Rattle.device.specs.declared.Device.{Device}
 use Rattle.device.specs.Device.{memoryOf, pixelsOf, widthOf, heightOf, ringGood, conditionGood, definedGood, made}
-use Rattle.device_run.specs.Run.{RunOutcome, lentGood, conditionAfter, settled, machineOf, ran, refusedRun, runBy, runOf}
+use Rattle.device_run.specs.Run.{Lent, RunOutcome, lentGood, conditionAfter, settled, machineOf, ran, refusedRun, runBy, runOf}
 use Rattle.device.proofs.Laws.{well-formed}
 use Rattle.device.proofs.Kept.{made-of}
 
@@ -368,27 +368,27 @@ pub data Refusal : ℕ → Type 0 where
   fault-stands : Refusal 23
   too-large : Refusal 24
 
-module _ (d : Device) (ring framebuffer screen cursor : List ℕ) where
+module _ (d : Device) (l : Lent) where
   -- what a run that is not refused has shown
   pub record Open (g : Ring) : Type 0 where
     pub is-made : made d ≡ true
-    pub lengths : lentGood d (length ring) (length framebuffer) (length screen) (length cursor) ≡ true
+    pub lengths : lentGood d l ≡ true
     pub is-configured : d .registers .config ≡ true
     pub is-enabled : d .registers .enable ≡ true
     pub mode : leb (widthOf d * heightOf d) (pixelsOf d) ≡ true
     pub running : d .condition ≡ Running g
 
   abbrev pub ranIn : ℕ → Ring → Outcome
-  ranIn budget g = runIn (scene (widthOf d) (heightOf d) framebuffer) g budget ring (machineOf d screen cursor)
+  ranIn budget g = runIn (scene (widthOf d) (heightOf d) (l .framebuffer)) g budget (l .ring) (machineOf d l)
 
   by-cond : (P : RunOutcome → Type 0) (b : Bool) {x y : RunOutcome} → (b ≡ true → P x) → (b ≡ false → P y) → P (cond b x y)
   by-cond P true f g = f refl
   by-cond P false f g = g refl
 
   by-condition : (P : RunOutcome → Type 0) (budget : ℕ) (c : Condition) → d .condition ≡ c
-      → ((a : ℕ) → Refusal a → P (refusedRun d ring framebuffer screen cursor a))
-      → ((g : Ring) → d .condition ≡ Running g → P (ran d (ranIn budget g)))
-      → P (runBy d ring framebuffer screen cursor budget c)
+      → ((a : ℕ) → Refusal a → P (refusedRun d l a))
+      → ((g : Ring) → d .condition ≡ Running g → P (ran d l (ranIn budget g)))
+      → P (runBy d l budget c)
   unfolding runBy
   by-condition P budget Idle e no-run goes = no-run 22 not-configured
   by-condition P budget (Running g) e no-run goes = goes g e
@@ -396,41 +396,41 @@ module _ (d : Device) (ring framebuffer screen cursor : List ℕ) where
 
   -- what holds of every refusal, and of every run that goes on, holds of every run
   pub by-run : (P : RunOutcome → Type 0) (budget : ℕ)
-      → ((a : ℕ) → Refusal a → P (refusedRun d ring framebuffer screen cursor a))
-      → ((g : Ring) → Open g → P (ran d (ranIn budget g)))
-      → P (runOf d ring framebuffer screen cursor budget)
+      → ((a : ℕ) → Refusal a → P (refusedRun d l a))
+      → ((g : Ring) → Open g → P (ran d l (ranIn budget g)))
+      → P (runOf d l budget)
   unfolding runOf
   by-run P budget no-run goes =
       by-cond P (made d)
-      (λ m. by-cond P (lentGood d (length ring) (length framebuffer) (length screen) (length cursor))
-      (λ l. by-cond P (d .registers .config)
+      (λ m. by-cond P (lentGood d l)
+      (λ n. by-cond P (d .registers .config)
       (λ c. by-cond P (d .registers .enable)
       (λ e. by-cond P (leb (widthOf d * heightOf d) (pixelsOf d))
       (λ f. by-condition P budget (d .condition) refl no-run
-      (λ g r. goes g (record { is-made = m; lengths = l; is-configured = c; is-enabled = e; mode = f; running = r })))
+      (λ g r. goes g (record { is-made = m; lengths = n; is-configured = c; is-enabled = e; mode = f; running = r })))
       (λ f. no-run 24 too-large))
       (λ e. no-run 21 disabled))
       (λ c. no-run 22 not-configured))
-      (λ l. no-run 20 lent-length))
+      (λ n. no-run 20 lent-length))
       (λ m. no-run 22 not-configured)
 
   module _ (g : Ring) (o : Open g) where
     -- the machine that such a run starts with is sound
-    pub open-sound : Sound (widthOf d * heightOf d) screen (machineOf d screen cursor)
+    pub open-sound : Sound (widthOf d * heightOf d) (l .screen) (machineOf d l)
     unfolding lentGood
     open-sound =
-        let a = both (eqb (length ring) (memoryOf d / 4)) _ (o .lengths) in
-        let b = both (eqb (length framebuffer) (pixelsOf d)) _ (a .1) in
-        let c = both (eqb (length screen) (pixelsOf d)) _ (b .1) in
+        let a = both (eqb (length (l .ring)) (memoryOf d / 4)) _ (o .lengths) in
+        let b = both (eqb (length (l .framebuffer)) (pixelsOf d)) _ (a .1) in
+        let c = both (eqb (length (l .screen)) (pixelsOf d)) _ (b .1) in
         record { same-length = refl; beyond-mode = λ k h. refl; cursor = eqb-true _ _ (c .1); defined = well-formed d (o .is-made) .defined }
 
     -- and so is the one that it leaves
-    pub left-sound : (budget : ℕ) → Sound (widthOf d * heightOf d) screen (ranIn budget g .machine)
+    pub left-sound : (budget : ℕ) → Sound (widthOf d * heightOf d) (l .screen) (ranIn budget g .machine)
     left-sound budget =
-        run-sound (scene (widthOf d) (heightOf d) framebuffer) g budget ring (machineOf d screen cursor) screen (well-formed d (o .is-made) .width-low) open-sound
+        run-sound (scene (widthOf d) (heightOf d) (l .framebuffer)) g budget (l .ring) (machineOf d l) (l .screen) (well-formed d (o .is-made) .width-low) open-sound
 
-    pub left-stays : (budget : ℕ) → Stays g ring (ranIn budget g)
-    left-stays budget = run-stays (scene (widthOf d) (heightOf d) framebuffer) g budget ring (machineOf d screen cursor)
+    pub left-stays : (budget : ℕ) → Stays g (l .ring) (ranIn budget g)
+    left-stays budget = run-stays (scene (widthOf d) (heightOf d) (l .framebuffer)) g budget (l .ring) (machineOf d l)
 
     -- and the remembered ring good
     pub open-ring : ringGood (memoryOf d) g ≡ true
@@ -440,7 +440,7 @@ module _ (d : Device) (ring framebuffer screen cursor : List ℕ) where
         let q : conditionGood (memoryOf d) true (Running g) ≡ true = rw (o .is-configured, o .running) at c in
         q
 
-  ring-kept : (memory : ℕ) (g : Ring) (r : Outcome) → Stays g ring r → ringGood memory g ≡ true → ringGood memory (r .place) ≡ true
+  ring-kept : (memory : ℕ) (g : Ring) (r : Outcome) → Stays g (l .ring) r → ringGood memory g ≡ true → ringGood memory (r .place) ≡ true
   unfolding ringGood
   ring-kept memory g r s e =
       let a = both (leb 4 (g .min)) _ e in
@@ -478,14 +478,14 @@ module _ (d : Device) (ring framebuffer screen cursor : List ℕ) where
       })
 
   -- a run leaves a made device made
-  pub run-made : (budget : ℕ) → made d ≡ true → made (runOf d ring framebuffer screen cursor budget .device) ≡ true
+  pub run-made : (budget : ℕ) → made d ≡ true → made (runOf d l budget .device) ≡ true
   run-made budget m = by-run (λ (r : RunOutcome). made (r .device) ≡ true) budget (λ a r. m) (settled-made budget)
 
   -- ---- "Answers 20 to 34 change nothing; a run's count is then 0"
 
-  pub refused-run : (budget : ℕ) → 20 ≤ runOf d ring framebuffer screen cursor budget .answer
-      → runOf d ring framebuffer screen cursor budget ≡ refusedRun d ring framebuffer screen cursor (runOf d ring framebuffer screen cursor budget .answer)
+  pub refused-run : (budget : ℕ) → 20 ≤ runOf d l budget .answer
+      → runOf d l budget ≡ refusedRun d l (runOf d l budget .answer)
   refused-run budget =
-      by-run (λ (r : RunOutcome). 20 ≤ r .answer → r ≡ refusedRun d ring framebuffer screen cursor (r .answer)) budget
+      by-run (λ (r : RunOutcome). 20 ≤ r .answer → r ≡ refusedRun d l (r .answer)) budget
       (λ a r h. refl)
       (λ g o h. absurd (omega (arith, told-small (ranIn budget g .answer) (left-stays g o budget .told))))

@@ -30,13 +30,13 @@ use Rattle.register_write.specs.Answers as A
 use Rattle.register_read.specs.Registers.{readBy, readOf}
 use Rattle.register_write.specs.Registers.{written}
 use Rattle.adapter.specs.Picture.{cursorOver, lengthsGood, pictureOf}
-use Rattle.device_run.specs.Run.{RunOutcome, machineOf, refusedRun, ran, runOf}
+use Rattle.device_run.specs.Run.{Lent, RunOutcome, machineOf, refusedRun, ran, runOf}
 use Rattle.run.specs.Run.{scene}
 use Rattle.device.proofs.Laws.{well-formed}
 use Rattle.register_write.proofs.Kept.{Left, same, changed, forgotten, remembered, left, sizes-kept}
 use Rattle.register_write.proofs.Refusals.{Why, no-register, read-only, bad-value, wrong-length, ring-refused, is-taken, why, unmade-write}
 use Rattle.replay.proofs.KeptByRun.{Told, Refusal, lent-length, disabled, not-configured, fault-stands, too-large, Open, ranIn, by-run, left-sound, left-stays, open-sound, refused-run, run-count, beyond-rows}
-use Rattle.replay.specs.Calls.{Memories, World, Call, make, write, read, run, append, picture, offscreen, fence, passed, lend, Outcome, perform, performAll}
+use Rattle.replay.specs.Calls.{World, Call, make, write, read, run, append, picture, offscreen, fence, passed, lend, Outcome, perform, performAll}
 use Rattle.replay.specs.Harm.{row, among, SameBut, InMode, WriteChanges, RunChanges, AppendChanges, PictureChanges, OnlyNamed, Safe, Harmless}
 use Rattle.replay.proofs.Starts.{writes-number, refused-stays}
 
@@ -95,11 +95,11 @@ unfolding perform
 run-answers budget w =
     let d = w .device in
     let m = w .lent in
-    by-run d (m .ring) (m .framebuffer) (m .screen) (m .cursor) (λ (o : RunOutcome). among (o .answer) (row (run budget)) ≡ true) budget
+    by-run d m (λ (o : RunOutcome). among (o .answer) (row (run budget)) ≡ true) budget
     (refusal-row budget)
     (λ g o.
-    told-row budget (ranIn d (m .ring) (m .framebuffer) (m .screen) (m .cursor) budget g .answer)
-    (left-stays d (m .ring) (m .framebuffer) (m .screen) (m .cursor) g o budget .told))
+    told-row budget (ranIn d m budget g .answer)
+    (left-stays d m g o budget .told))
 
 append-answers : (word : ℕ) (w : World) → among (perform (append word) w .answer) (row (append word)) ≡ true
 unfolding perform appendOf
@@ -110,7 +110,7 @@ unfolding perform pictureOf
 picture-answers w =
     let d = w .device in
     by-bool (made d)
-    (λ m. by-bool (lengthsGood (pixelsOf d) (length (w .lent .screen)) (length (w .lent .cursor)) (length (w .lent .output)))
+    (λ m. by-bool (lengthsGood (pixelsOf d) (length (w .lent .screen)) (length (w .lent .cursor)) (length (w .output)))
     (λ l. by-bool (leb (widthOf d * heightOf d) (pixelsOf d)) (λ t. rw (m, l, t)) (λ f. rw (m, l, f)))
     (λ l. rw (m, l)))
     (λ f. rw f)
@@ -134,7 +134,7 @@ write-changes : (index value : ℕ) (w : World) → WriteChanges w (perform (wri
 unfolding perform
 write-changes index value w =
     let k = marks-kept (w .device) (w .lent .ring) index value in
-    record { sizes = sizes-kept (w .device) (w .lent .ring) index value; defined = k .0; fence = k .1; lent = refl }
+    record { sizes = sizes-kept (w .device) (w .lent .ring) index value; defined = k .0; fence = k .1; lent = refl; output = refl }
 
 -- not below is at least
 not-below : (i n : ℕ) → (i < n → ⊥) → n ≤ i
@@ -142,19 +142,16 @@ not-below i n h = by-bool (ltb i n) (λ t. absurd (h (ltb-true i n t))) (λ f. l
 
 -- the world that a run's outcome leaves
 abbrev ranWorld : World → RunOutcome → World
-ranWorld w o = record {
-  device = o .device;
-  lent = record { ring = o .ring; framebuffer = w .lent .framebuffer; screen = o .screen; cursor = o .cursor; output = w .lent .output };
-}
+ranWorld w o = record { device = o .device; lent = o .lent; output = w .output }
 
 module _ (w : World) where
   abbrev d : Device
   d = w .device
 
-  abbrev m : Memories
+  abbrev m : Lent
   m = w .lent
 
-  refused-run-changes : (a : ℕ) → RunChanges w (ranWorld w (refusedRun d (m .ring) (m .framebuffer) (m .screen) (m .cursor) a))
+  refused-run-changes : (a : ℕ) → RunChanges w (ranWorld w (refusedRun d m a))
   refused-run-changes a = record {
     sizes = refl;
     registers = refl;
@@ -166,12 +163,12 @@ module _ (w : World) where
     output = refl;
   }
 
-  ran-changes : (budget : ℕ) (g : Ring) → Open d (m .ring) (m .framebuffer) (m .screen) (m .cursor) g
-      → RunChanges w (ranWorld w (ran d (ranIn d (m .ring) (m .framebuffer) (m .screen) (m .cursor) budget g)))
+  ran-changes : (budget : ℕ) (g : Ring) → Open d m g
+      → RunChanges w (ranWorld w (ran d m (ranIn d m budget g)))
   ran-changes budget g o =
-      let s = left-stays d (m .ring) (m .framebuffer) (m .screen) (m .cursor) g o budget in
-      let before = open-sound d (m .ring) (m .framebuffer) (m .screen) (m .cursor) g o in
-      let after = left-sound d (m .ring) (m .framebuffer) (m .screen) (m .cursor) g o budget in
+      let s = left-stays d m g o budget in
+      let before = open-sound d m g o in
+      let after = left-sound d m g o budget in
       record {
         sizes = refl;
         registers = refl;
@@ -186,7 +183,7 @@ module _ (w : World) where
   run-changes : (budget : ℕ) → RunChanges w (perform (run budget) w .world)
   unfolding perform
   run-changes budget =
-      by-run d (m .ring) (m .framebuffer) (m .screen) (m .cursor) (λ (o : RunOutcome). RunChanges w (ranWorld w o)) budget
+      by-run d m (λ (o : RunOutcome). RunChanges w (ranWorld w o)) budget
       (λ a r. refused-run-changes a)
       (ran-changes budget)
 
@@ -195,40 +192,38 @@ module _ (w : World) where
   append-changes word = record {
     ring = record { same-length = length-append-to (m .ring) word; elsewhere = λ i h. append-elsewhere (m .ring) word i (λ e. h (inl e)) (λ e. h (inr e)) };
     device = refl;
-    framebuffer = refl;
-    screen = refl;
-    cursor = refl;
+    others = refl;
     output = refl;
   }
 
-  composed-changes : (over : Over) → made d ≡ true → SameBut (InMode w) (m .output) (composed (widthOf d) (heightOf d) over (m .screen) (m .cursor) (m .output))
+  composed-changes : (over : Over) → made d ≡ true → SameBut (InMode w) (w .output) (composed (widthOf d) (heightOf d) over (m .screen) (m .cursor) (w .output))
   composed-changes over y =
       let width = widthOf d in
       let height = heightOf d in
-      let l = length-composed width height (m .screen) (m .cursor) (m .output) over in
+      let l = length-composed width height (m .screen) (m .cursor) (w .output) over in
       record {
         same-length = l;
         elsewhere = λ i h.
             let far = not-below i (width * height) h in
-            by-bool (ltb i (length (m .output)))
-            (λ t. beyond-stays width height (m .screen) (m .cursor) (m .output) over i (ltb-true i (length (m .output)) t) (beyond-rows width height i (well-formed d y .width-low) far))
+            by-bool (ltb i (length (w .output)))
+            (λ t. beyond-stays width height (m .screen) (m .cursor) (w .output) over i (ltb-true i (length (w .output)) t) (beyond-rows width height i (well-formed d y .width-low) far))
             (λ f.
-            let k : length (m .output) ≤ i = ltb-false i (length (m .output)) f in
-            List·getD-eq-default (composed width height over (m .screen) (m .cursor) (m .output)) 0 (rw l k) ∙ sym (List·getD-eq-default (m .output) 0 k));
+            let k : length (w .output) ≤ i = ltb-false i (length (w .output)) f in
+            List·getD-eq-default (composed width height over (m .screen) (m .cursor) (w .output)) 0 (rw l k) ∙ sym (List·getD-eq-default (w .output) 0 k));
       }
 
-  output-changes : SameBut (InMode w) (m .output) (pictureOf d (m .screen) (m .cursor) (m .output) .output)
+  output-changes : SameBut (InMode w) (w .output) (pictureOf d (m .screen) (m .cursor) (w .output) .output)
   unfolding pictureOf
   output-changes =
       by-bool (made d)
-      (λ y. by-bool (lengthsGood (pixelsOf d) (length (m .screen)) (length (m .cursor)) (length (m .output)))
-      (λ l. by-bool (leb (widthOf d * heightOf d) (pixelsOf d)) (λ t. rw (y, l, t) (composed-changes (cursorOver d (d .defined)) y)) (λ f. rw (y, l, f) (all-same (m .output))))
-      (λ l. rw (y, l) (all-same (m .output))))
-      (λ f. rw f (all-same (m .output)))
+      (λ y. by-bool (lengthsGood (pixelsOf d) (length (m .screen)) (length (m .cursor)) (length (w .output)))
+      (λ l. by-bool (leb (widthOf d * heightOf d) (pixelsOf d)) (λ t. rw (y, l, t) (composed-changes (cursorOver d (d .defined)) y)) (λ f. rw (y, l, f) (all-same (w .output))))
+      (λ l. rw (y, l) (all-same (w .output))))
+      (λ f. rw f (all-same (w .output)))
 
   picture-changes : PictureChanges w (perform picture w .world)
   unfolding perform
-  picture-changes = record { output = output-changes; device = refl; ring = refl; framebuffer = refl; screen = refl; cursor = refl }
+  picture-changes = record { output = output-changes; device = refl; lent = refl }
 
 -- ---- demand 1
 
@@ -243,11 +238,11 @@ call-answers picture w = picture-answers w
 call-answers offscreen w = refl
 call-answers fence w = refl
 call-answers (passed number) w = refl
-call-answers (lend memories) w = refl
+call-answers (lend l output) w = refl
 
 call-changes : (c : Call) (w : World) → OnlyNamed c w (perform c w .world)
 unfolding perform
-call-changes (make memory pixels) w = refl
+call-changes (make memory pixels) w = (refl, refl)
 call-changes (write index value) w = write-changes index value w
 call-changes (read index) w = refl
 call-changes (run budget) w = run-changes w budget
@@ -256,7 +251,7 @@ call-changes picture w = picture-changes w
 call-changes offscreen w = refl
 call-changes fence w = refl
 call-changes (passed number) w = refl
-call-changes (lend memories) w = (refl, refl)
+call-changes (lend l output) w = (refl, refl, refl)
 
 one-zero : (v i : ℕ) → v ≡ 0 → getD (v ∷ []) i 0 ≡ 0
 one-zero v zero e = e
@@ -279,14 +274,14 @@ call-silent (write index value) w h i = refl
 call-silent (read index) w h i = one-zero (readOf (w .device) index .value) i (read-value (w .device) index h)
 call-silent (run budget) w h i =
     let m = w .lent in
-    let q = refused-run (w .device) (m .ring) (m .framebuffer) (m .screen) (m .cursor) budget h in
-    one-zero (runOf (w .device) (m .ring) (m .framebuffer) (m .screen) (m .cursor) budget .count) i (ap (λ (o : RunOutcome). o .count) q)
+    let q = refused-run (w .device) m budget h in
+    one-zero (runOf (w .device) m budget .count) i (ap (λ (o : RunOutcome). o .count) q)
 call-silent (append word) w h i = refl
 call-silent picture w h i = refl
 call-silent offscreen w h i = absurd (omega arith)
 call-silent fence w h i = absurd (omega arith)
 call-silent (passed number) w h i = absurd (omega arith)
-call-silent (lend memories) w h i = refl
+call-silent (lend l output) w h i = refl
 
 -- every call, of every device, made or not, with every lent memory
 pub safe : (c : Call) (w : World) → Safe c w
@@ -307,9 +302,9 @@ unfolding perform
 run-bounded budget w =
     let d = w .device in
     let m = w .lent in
-    by-run d (m .ring) (m .framebuffer) (m .screen) (m .cursor) (λ (o : RunOutcome). o .count ≤ budget) budget
+    by-run d m (λ (o : RunOutcome). o .count ≤ budget) budget
     (λ a r. omega arith)
-    (λ g o. run-count (scene (widthOf d) (heightOf d) (m .framebuffer)) g budget (m .ring) (machineOf d (m .screen) (m .cursor)))
+    (λ g o. run-count (scene (widthOf d) (heightOf d) (m .framebuffer)) g budget (m .ring) (machineOf d m))
 
 -- "The run changes no other ring word, and none if it consumed nothing."
 pub run-untouched : (budget : ℕ) (w : World) → getD (perform (run budget) w .values) 0 0 ≡ 0 → perform (run budget) w .world .lent .ring ≡ w .lent .ring
@@ -317,6 +312,6 @@ unfolding perform
 run-untouched budget w =
     let d = w .device in
     let m = w .lent in
-    by-run d (m .ring) (m .framebuffer) (m .screen) (m .cursor) (λ (o : RunOutcome). o .count ≡ 0 → o .ring ≡ m .ring) budget
+    by-run d m (λ (o : RunOutcome). o .count ≡ 0 → o .lent .ring ≡ m .ring) budget
     (λ a r h. refl)
-    (λ g o. left-stays d (m .ring) (m .framebuffer) (m .screen) (m .cursor) g o budget .untouched)
+    (λ g o. left-stays d m g o budget .untouched)

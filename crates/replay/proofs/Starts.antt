@@ -29,6 +29,7 @@ use Rattle.device.specs.Device.{memoryOf, pixelsOf, widthOf, heightOf, enabledO
 use Rattle.device.specs.Making.{madeOf}
 use Rattle.register_write.specs.Answers as A
 use Rattle.register_write.specs.Registers.{taken, isId, setMode, setState, idWritten, enableWritten, widthWritten, heightWritten, configured, acceptedWritten, configDoneWritten, running, synced, cursorOnWritten, writableWritten, writtenBy, written}
+use Rattle.device_run.specs.Run as R
 use Rattle.device_run.specs.Run.{RunOutcome, lentGood}
 use Rattle.device.proofs.Laws.{well-formed}
 use Rattle.device.proofs.Kept.{fresh-made}
@@ -37,21 +38,17 @@ use Rattle.register_read.proofs.Readings.{numberOf}
 use Rattle.register_write.proofs.Refusals.{refused-changes-nothing, unmade-write, wrong-length, ring-refused, only}
 use Rattle.adapter.proofs.Refusals.{refused-picture}
 use Rattle.replay.proofs.KeptByRun.{refused-run, run-made}
-use Rattle.replay.specs.Calls.{Memories, World, Call, make, write, read, run, append, picture, offscreen, fence, passed, lend, Outcome, withOutput, perform, History, performAll}
-use Rattle.replay.specs.Calls as Calls
+use Rattle.replay.specs.Calls.{World, Call, make, write, read, run, append, picture, offscreen, fence, passed, lend, Outcome, withDevice, perform, History, performAll}
 use Rattle.replay.specs.Demand.{ringAtStart, isStart}
 
 -- ---- what a start is, test by test
-
-abbrev pub lentRight : Device → Memories → Bool
-lentRight d m = lentGood d (length (m .ring)) (length (m .framebuffer)) (length (m .screen)) (length (m .cursor))
 
 abbrev pub modeFits : Device → Bool
 modeFits d = leb (widthOf d * heightOf d) (pixelsOf d)
 
 pub record Start (w : World) : Type 0 where
   pub is-made : made (w .device) ≡ true
-  pub lengths : lentRight (w .device) (w .lent) ≡ true
+  pub lengths : lentGood (w .device) (w .lent) ≡ true
   pub is-configured : configuredOf (w .device) ≡ true
   pub is-enabled : enabledOf (w .device) ≡ true
   pub mode : modeFits (w .device) ≡ true
@@ -61,7 +58,7 @@ pub start-says : (w : World) → isStart w ≡ true → Start w
 unfolding isStart
 start-says w e =
     let a = both (made (w .device)) _ e in
-    let b = both (lentRight (w .device) (w .lent)) _ (a .1) in
+    let b = both (lentGood (w .device) (w .lent)) _ (a .1) in
     let c = both (configuredOf (w .device)) _ (b .1) in
     let d = both (enabledOf (w .device)) _ (c .1) in
     let f = both (modeFits (w .device)) _ (d .1) in
@@ -87,7 +84,7 @@ ring-empty ring (Running g) e =
 
 -- taken, with this device afterwards and the memories as they were
 abbrev pub took : World → Device → Outcome
-took w d = record { answer = 0; values = []; world = record { device = d; lent = w .lent } }
+took w d = record { answer = 0; values = []; world = withDevice w d }
 
 make-taken : (w : World) (memory pixels : ℕ) → sizesGood memory pixels ≡ true → perform (make memory pixels) w ≡ took w (fresh memory pixels)
 unfolding perform madeOf
@@ -142,7 +139,7 @@ remembered-start ring u n =
 
 -- "CONFIG_DONE 1 .. Accepted": of a made and enabled device whose mode fits, with every lent length right, at ring words that are usable and empty, it
 -- is taken and gives a start.
-pub accepted-starts : (w : World) → made (w .device) ≡ true → lentRight (w .device) (w .lent) ≡ true → enabledOf (w .device) ≡ true → modeFits (w .device) ≡ true
+pub accepted-starts : (w : World) → made (w .device) ≡ true → lentGood (w .device) (w .lent) ≡ true → enabledOf (w .device) ≡ true → modeFits (w .device) ≡ true
     → usable (w .lent .ring) ≡ true → nextOf (w .lent .ring) ≡ stopOf (w .lent .ring)
     → (perform (write 20 1) w ≡ took w (withRing (w .device) (w .lent .ring))) × (isStart (perform (write 20 1) w .world) ≡ true)
 unfolding lentGood
@@ -181,7 +178,7 @@ pub start-reached : (w : World) (memory pixels width height : ℕ) → sizesGood
 unfolding performAll lentGood
 start-reached w memory pixels width height good a b c d fits r f s k u n =
     let ring = w .lent .ring in
-    let at : Device → World = λ e. record { device = e; lent = w .lent } in
+    let at : Device → World = withDevice w in
     let d₁ = fresh memory pixels in
     let d₂ = withWidth d₁ width in
     let d₃ = withHeight d₂ height in
@@ -193,7 +190,7 @@ start-reached w memory pixels width height good a b c d fits r f s k u n =
     let m₃ = made-after d₂ d₃ ring 3 height m₂ q₃ in
     let q₄ = enable-taken d₃ ring m₃ in
     let m₄ = made-after d₃ d₄ ring 1 1 m₃ q₄ in
-    let l : lentRight d₄ (w .lent) ≡ true = rw (eq-eqb _ _ r, eq-eqb _ _ f, eq-eqb _ _ s) (eq-eqb _ _ k) in
+    let l : lentGood d₄ (w .lent) ≡ true = rw (eq-eqb _ _ r, eq-eqb _ _ f, eq-eqb _ _ s) (eq-eqb _ _ k) in
     let z = accepted-starts (at d₄) m₄ l refl (le-leb (width * height) pixels fits) u n in
     let first = make-taken w memory pixels good in
     let second = write-taken (at d₁) 2 width d₂ q₂ in
@@ -241,9 +238,9 @@ alike d g p busy a b c e = record { sizes = refl; width = a; height = b; enable 
 same : (d : Device) → Alike d d
 same d = alike d (d .registers) (d .plane) (d .busy) refl refl refl refl
 
-alike-start : (d e : Device) (m : Memories) → Alike d e → isStart (record { device = e; lent = m }) ≡ isStart (record { device = d; lent = m })
+alike-start : (w : World) (e : Device) → Alike (w .device) e → isStart (withDevice w e) ≡ isStart w
 unfolding isStart made lentGood
-alike-start d e m s = rw (s .sizes, s .width, s .height, s .enable, s .config, s .condition, s .defined)
+alike-start w e s = rw (s .sizes, s .width, s .height, s .enable, s .config, s .condition, s .defined)
 
 by-cond : {A : Type 0} (P : A → Type 0) (b : Bool) {x y : A} → (b ≡ true → P x) → (b ≡ false → P y) → P (cond b x y)
 by-cond P true f g = f refl
@@ -318,7 +315,7 @@ pub write-keeps : (w : World) (index value : ℕ) → (index ≡ 1 → ⊥) → 
     → isStart w ≡ true → isStart (perform (write index value) w .world) ≡ true
 unfolding perform
 write-keeps w index value a b c e s =
-    alike-start (w .device) (written (w .device) (w .lent .ring) index value .device) (w .lent) (alike-written (w .device) (w .lent .ring) index value a b c e) ∙ s
+    alike-start w (written (w .device) (w .lent .ring) index value .device) (alike-written (w .device) (w .lent .ring) index value a b c e) ∙ s
 
 -- CONFIG_DONE 1 again
 pub configured-again : (w : World) → isStart w ≡ true → isStart (perform (write 20 1) w .world) ≡ true
@@ -333,7 +330,7 @@ enabled-again w s =
     let z = start-says w s in
     let d = w .device in
     let q = write-taken w 1 1 (withEnable d) (enable-taken d (w .lent .ring) (z .is-made)) in
-    rw q (alike-start d (withEnable d) (w .lent) (alike d _ _ _ refl refl (sym (z .is-enabled)) refl) ∙ s)
+    rw q (alike-start w (withEnable d) (alike d _ _ _ refl refl (sym (z .is-enabled)) refl) ∙ s)
 
 -- ---- "Answers 20 to 34 change nothing"
 
@@ -345,26 +342,23 @@ refused-stays (make memory pixels) w h =
     (λ t. let z : 20 ≤ 0 = rw t at h in absurd (omega arith))
     (λ f. rw f)
 refused-stays (write index value) w h =
-    ap {B = World} (λ (d : Device). record { device = d; lent = w .lent })
+    ap (withDevice w)
     (refused-changes-nothing (w .device) (w .lent .ring) index value (λ z. absurd (omega arith)))
 refused-stays (read index) w h = refl
 refused-stays (run budget) w h =
-    ap {B = World} (λ (o : RunOutcome). record {
-      device = o .device;
-      lent = record { ring = o .ring; framebuffer = w .lent .framebuffer; screen = o .screen; cursor = o .cursor; output = w .lent .output };
-    })
-    (refused-run (w .device) (w .lent .ring) (w .lent .framebuffer) (w .lent .screen) (w .lent .cursor) budget h)
+    ap {B = World} (λ (o : RunOutcome). record { device = o .device; lent = o .lent; output = w .output })
+    (refused-run (w .device) (w .lent) budget h)
 refused-stays (append word) w h =
     by-bool (canAppend (w .lent .ring))
     (λ t. let z : 20 ≤ 0 = rw t at h in absurd (omega arith))
     (λ f. let z : 20 ≤ 1 = rw f at h in absurd (omega arith))
 refused-stays picture w h =
-    ap {B = World} (λ (output : List ℕ). record { device = w .device; lent = withOutput (w .lent) output })
-    (refused-picture (w .device) (w .lent .screen) (w .lent .cursor) (w .lent .output) (λ z. absurd (omega arith)))
+    ap {B = World} (λ (output : List ℕ). record { device = w .device; lent = w .lent; output = output })
+    (refused-picture (w .device) (w .lent .screen) (w .lent .cursor) (w .output) (λ z. absurd (omega arith)))
 refused-stays offscreen w h = refl
 refused-stays fence w h = refl
 refused-stays (passed number) w h = refl
-refused-stays (lend m) w h = absurd (omega arith)
+refused-stays (lend l output) w h = absurd (omega arith)
 
 -- and so does an append whose word is not taken
 pub untaken-stays : (word : ℕ) (w : World) → perform (append word) w .answer ≡ 1 → perform (append word) w .world ≡ w
@@ -372,7 +366,7 @@ unfolding perform appendOf
 untaken-stays word w h =
     by-bool (canAppend (w .lent .ring))
     (λ t. let z : 0 ≡ 1 = rw t at h in absurd (omega arith))
-    (λ f. ap {B = World} (λ (ring : List ℕ). record { device = w .device; lent = Calls.withRing (w .lent) ring }) (append-refused (w .lent .ring) word f))
+    (λ f. ap {B = World} (λ (ring : List ℕ). record { device = w .device; lent = R.withRing (w .lent) ring; output = w .output }) (append-refused (w .lent .ring) word f))
 
 -- ---- the calls that leave a start a start
 
@@ -408,13 +402,13 @@ unfolding perform madeOf
 perform-made (make memory pixels) w y = by-bool (sizesGood memory pixels) (λ t. rw t (fresh-made memory pixels t)) (λ f. rw f y)
 perform-made (write index value) w y = written-made (w .device) (w .lent .ring) index value y
 perform-made (read index) w y = y
-perform-made (run budget) w y = run-made (w .device) (w .lent .ring) (w .lent .framebuffer) (w .lent .screen) (w .lent .cursor) budget y
+perform-made (run budget) w y = run-made (w .device) (w .lent) budget y
 perform-made (append word) w y = y
 perform-made picture w y = y
 perform-made offscreen w y = y
 perform-made fence w y = y
 perform-made (passed number) w y = y
-perform-made (lend memories) w y = y
+perform-made (lend l output) w y = y
 
 pub all-made : (cs : List Call) (w : World) → made (w .device) ≡ true → made (performAll cs w .world .device) ≡ true
 unfolding performAll
@@ -434,7 +428,7 @@ Leaves picture = Unit {0}
 Leaves offscreen = Unit {0}
 Leaves fence = Unit {0}
 Leaves (passed number) = Unit {0}
-Leaves (lend memories) = Unit {0}
+Leaves (lend l output) = Unit {0}
 
 -- ", refusals aside", each call on what the last one left
 abbrev pub NoRun : List Call → World → Type 0
@@ -484,7 +478,7 @@ leaves-condition picture w h = refl
 leaves-condition offscreen w h = refl
 leaves-condition fence w h = refl
 leaves-condition (passed number) w h = refl
-leaves-condition (lend memories) w h = refl
+leaves-condition (lend l output) w h = refl
 
 no-run-condition : (cs : List Call) (w : World) → NoRun cs w → conditionOf (performAll cs w .world .device) ≡ conditionOf (w .device)
 unfolding performAll
@@ -533,7 +527,7 @@ module _ (w : World) (taken-it : perform (write 20 1) w .answer ≡ 0) where
 pub start-whenever : (cs : List Call) (w z : World)
     → perform (write 20 1) w .answer ≡ 0 → nextOf (w .lent .ring) ≡ stopOf (w .lent .ring)
     → NoRun cs (perform (write 20 1) w .world) → performAll (write 20 1 ∷ cs) w .world ≡ z → z .lent .ring ≡ w .lent .ring
-    → enabledOf (z .device) ≡ true → modeFits (z .device) ≡ true → lentRight (z .device) (z .lent) ≡ true
+    → enabledOf (z .device) ≡ true → modeFits (z .device) ≡ true → lentGood (z .device) (z .lent) ≡ true
     → isStart z ≡ true
 unfolding performAll
 start-whenever cs w z t n q e same on fits long =

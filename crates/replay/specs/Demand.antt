@@ -35,7 +35,7 @@ ringAtStart ring (Running g) =
 unfoldable pub isStart : World → Bool
 isStart w =
     made (w .device)
-    && (lentGood (w .device) (length (w .lent .ring)) (length (w .lent .framebuffer)) (length (w .lent .screen)) (length (w .lent .cursor))
+    && (lentGood (w .device) (w .lent)
     && (configuredOf (w .device)
     && (enabledOf (w .device)
     && (leb (widthOf (w .device) * heightOf (w .device)) (pixelsOf (w .device)) && ringAtStart (w .lent .ring) (conditionOf (w .device))))))
@@ -53,7 +53,7 @@ wordsIn g w = waiting (w .lent .ring) (g .min) (g .max) (stopOf (w .lent .ring) 
 
 -- "Its state: the words left, screen, cursor image, defined cursor (none, or id, hotspot and size), fence."
 abbrev pub machineIn : World → Machine
-machineIn w = machineOf (w .device) (w .lent .screen) (w .lent .cursor)
+machineIn w = machineOf (w .device) (w .lent)
 
 abbrev pub lineIn : Ring → World → Line Machine
 lineIn g w = record { words = wordsIn g w; machine = machineIn w }

@@ -6,6 +6,7 @@ use native.Mathlib.Omega.{arith}
 use lib.ListN.{length, take}
 use lib.Seq.{take-all}
 use borrow.Author.Needs.{needs}
+use Rattle.device_run.specs.Run.{lent}
 use Rattle.console_session.specs.Session.{stateOf, fedAll}
 use Rattle.console_session.proofs.Feeding.{Feeding, fed-one}
 use Rattle.console_session.proofs.feed_bytes.Statement.{statement}
@@ -13,7 +14,7 @@ use Rattle.console_session.proofs.feed_bytes.Tie as tie
 
 abbrev Inv-loop : tie.InvT-loop
 Inv-loop chunk line₀ ring₀ framebuffer₀ screen₀ cursor₀ out₀ t₀ i₀ line ring framebuffer screen cursor out t i =
-    (stateOf t line ring framebuffer screen cursor out ≡ fedAll (stateOf t₀ line₀ ring₀ framebuffer₀ screen₀ cursor₀ out₀) (take i chunk))
+    (stateOf t line (lent ring framebuffer screen cursor) out ≡ fedAll (stateOf t₀ line₀ (lent ring₀ framebuffer₀ screen₀ cursor₀) out₀) (take i chunk))
     × (Feeding t₀ t i (length chunk)
     × ((length line ≡ length line₀)
     × ((length ring ≡ length ring₀)

@@ -5,6 +5,7 @@ use mathlib.Core.Path.{_≡_, refl, _∙_}
 use Prim.Native.Nat.{_-_}
 use native.Mathlib.Omega.{arith}
 use lib.ListN.{length, length-set}
+use Rattle.device_run.specs.Run.{lent}
 use Rattle.replay.specs.Replay.{world}
 use Rattle.replay.proofs.Walks.{Walked, walked-start, walked-more, walked-end}
 use Rattle.replay.proofs.walk.Statement.{statement}
@@ -12,7 +13,7 @@ use Rattle.replay.proofs.walk.Tie as tie
 
 abbrev Inv-loop : tie.InvT-loop
 Inv-loop list₀ ring₀ framebuffer screen₀ cursor₀ d₀ i₀ list ring screen cursor d i =
-    Walked list₀ (world d₀ ring₀ framebuffer screen₀ cursor₀) list (world d ring framebuffer screen cursor) i
+    Walked list₀ (world d₀ (lent ring₀ framebuffer screen₀ cursor₀)) list (world d (lent ring framebuffer screen cursor)) i
     × (length ring ≡ length ring₀) × (length screen ≡ length screen₀) × (length cursor ≡ length cursor₀)
 
 abbrev μ-loop : tie.MeasureT-loop
