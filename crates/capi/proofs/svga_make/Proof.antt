@@ -11,9 +11,15 @@ returns : tie.Need-returns
 unfolding makeIn
 returns c = rw (ne-eqb _ _ (c .if1 .taken))
 
+abbrev sized : tie.After-making → tie.Else1
+sized c = c .before .before .before
+
 returns-2 : tie.Need-returns-2
 unfolding makeIn
-returns-2 c = rw (eq-eqb _ _ (c .before .before .before .before .before .before .before .before .if1 .left), ← (c .before .before .before .before .before .before .before .make .ensures), c .before .before .before .before .before .making .given .1, put-whole _ _ (c .before .before .before .before .before .before .before .before .if1 .left) _ (c .before .before .put-in .ensures))
+returns-2 c =
+    let m = c .before .before .before .before .before in
+    let whole = sized m .if1 .left in
+    rw (eq-eqb _ _ whole, ← (m .before .before .make .ensures), m .making .given .1, put-whole _ _ whole _ (c .before .before .put-in .ensures))
 
 returns-3 : tie.Need-returns-3
 unfolding makeIn

@@ -16,7 +16,10 @@ returns-2 c = rw (eq-eqb _ _ (c .before .if1 .left), ne-eqb _ _ (c .if2 .taken))
 
 returns-3 : tie.Need-returns-3
 unfolding offscreenIn
-returns-3 c = rw (eq-eqb _ _ (c .before .before .before .before .before .before .before .if1 .left), eq-eqb _ _ (c .before .before .before .before .before .before .if2 .left), ← (c .before .before .before .before .before .held-in .ensures), ← (c .before .before .before .before .edges-of .ensures), c .before .before .put-edges .ensures)
+returns-3 c =
+    let e = c .before .before .before .before in
+    let second = e .before .before in
+    rw (eq-eqb _ _ (second .before .if1 .left), eq-eqb _ _ (second .if2 .left), ← (e .before .held-in .ensures), ← (e .edges-of .ensures), c .before .before .put-edges .ensures)
 
 pub svga-offscreen-spec : {M : Type 1} → statement M
 svga-offscreen-spec =

@@ -10,9 +10,15 @@ returns : tie.Need-returns
 unfolding pictureIn pictureHeld
 returns c = rw (ne-eqb _ _ (c .if1 .taken))
 
+abbrev sized : tie.After-held → tie.Else1
+sized c = c .before .before .before
+
 returns-2 : tie.Need-returns-2
 unfolding pictureIn pictureHeld
-returns-2 c = rw (eq-eqb _ _ (c .before .before .before .before .before .before .before .before .before .if1 .left), ← (c .before .before .before .before .before .before .before .before .held-in .ensures), c .before .before .before .before .before .before .held .given .1, c .picture-number .ensures) (c .before .before .before .picture .ensures)
+returns-2 c =
+    let p = c .before .before .before in
+    let h = p .before .before .before in
+    rw (eq-eqb _ _ (sized h .if1 .left), ← (h .before .before .held-in .ensures), h .held .given .1, c .picture-number .ensures) (p .picture .ensures)
 
 returns-3 : tie.Need-returns-3
 unfolding pictureIn pictureHeld

@@ -13,7 +13,11 @@ returns c = rw (ne-eqb _ _ (c .before .if1 .taken), c .pack .ensures)
 
 returns-2 : tie.Need-returns-2
 unfolding runIn runHeld
-returns-2 c = rw (eq-eqb _ _ (c .before .before .before .before .before .before .before .before .before .before .before .before .before .before .before .before .before .before .before .before .before .if1 .left), ← (c .before .before .before .before .before .before .before .before .before .before .before .before .before .before .before .before .before .before .before .held-in .ensures), c .before .before .before .before .before .before .before .before .before .before .before .before .before .before .before .before .before .held .given .1, ← (c .before .before .before .before .before .before .before .before .before .before .before .before .run .ensures), c .pack2 .ensures, c .before .run-number .ensures, put-whole _ _ (c .before .before .before .before .before .before .before .before .before .before .before .before .before .before .before .before .before .before .before .before .before .if1 .left) _ (c .before .before .before .before .put-in .ensures))
+returns-2 c =
+    let at-run = c .before .before .before .before .before .before .before .before .before .before .before .before in
+    let at-held = at-run .before .before .before .before .before in
+    let sized = at-held .before .before .before .before .if1 .left in
+    rw (eq-eqb _ _ sized, ← (at-held .before .before .held-in .ensures), at-held .held .given .1, ← (at-run .run .ensures), c .pack2 .ensures, c .before .run-number .ensures, put-whole _ _ sized _ (c .before .before .before .before .put-in .ensures))
 
 returns-3 : tie.Need-returns-3
 unfolding runIn runHeld

@@ -11,9 +11,16 @@ returns : tie.Need-returns
 unfolding writeIn writeHeld
 returns c = rw (ne-eqb _ _ (c .if1 .taken))
 
+abbrev sized : tie.After-held → tie.Else1
+sized c = c .before .before .before .before
+
 returns-2 : tie.Need-returns-2
 unfolding writeIn writeHeld
-returns-2 c = rw (eq-eqb _ _ (c .before .before .before .before .before .before .before .before .before .before .before .if1 .left), ← (c .before .before .before .before .before .before .before .before .before .held-in .ensures), c .before .before .before .before .before .before .before .held .given .1, ← (c .before .before .before .before .before .write .ensures), c .write-number .ensures, put-whole _ _ (c .before .before .before .before .before .before .before .before .before .before .before .if1 .left) _ (c .before .before .before .put-in .ensures))
+returns-2 c =
+    let w = c .before .before .before .before .before in
+    let h = w .before .before in
+    let whole = sized h .if1 .left in
+    rw (eq-eqb _ _ whole, ← (h .before .before .held-in .ensures), h .held .given .1, ← (w .write .ensures), c .write-number .ensures, put-whole _ _ whole _ (c .before .before .before .put-in .ensures))
 
 returns-3 : tie.Need-returns-3
 unfolding writeIn writeHeld

@@ -7,13 +7,24 @@ use Rattle.console.proofs.Turning.{ready-within, within-one}
 use Rattle.console.proofs.main.Statement.{statement}
 use Rattle.console.proofs.main.Tie as tie
 
+abbrev ready : tie.After-out → tie.After-start
+ready c = c .before .before .before .before .before .before .before .before
+
 serve-requires : tie.Need-serve-requires
-serve-requires c κs = ready-within (c .before .before .before .before .before .before .before .before .start .given .1) (c .before .before .before .before .before .before .before .before .before .before .before .begin .ensures .0) (search needs)
+serve-requires c κs =
+    ready-within (ready c .start .given .1) (ready c .before .before .before .begin .ensures .0) (search needs)
+
+abbrev at-serve : tie.After-out3 → tie.After-serve
+at-serve c = c .before .before .before .before .before .before .before .before .before .before .before .before .before
+
+abbrev buffered : tie.After-start → tie.After-buffer
+buffered c = c .before .before .before .before .before
 
 end-requires : tie.Need-end-requires
 end-requires c κs =
-    let kept = c .before .before .before .before .before .before .before .before .before .before .before .before .before .serve .kept .1 .1 in
-    within-one (c .before .before .before .before .before .before .before .before .before .before .before .before .before .serve .ensures) (omega (arith, c .before .before .before .before .before .before .before .before .before .before .before .before .before .before .before .before .before .before .before .before .before .before .before .before .before .before .before .buffer .ensures)) (sym (kept .0)) (sym (kept .1 .1 .1 .1 .1 .0))
+    let served = at-serve c .serve in
+    let kept = served .kept .1 .1 in
+    within-one (served .ensures) (omega (arith, buffered (ready (at-serve c .before)) .buffer .ensures)) (sym (kept .0)) (sym (kept .1 .1 .1 .1 .1 .0))
 
 pub main-spec : {M : Type 1} → statement M
 main-spec =
