@@ -11,7 +11,8 @@ ghost use Rattle.register_read.specs.Registers.{bit, readOf};
 ghost use Rattle.adapter.specs.Fence.{fenceOf, fencePassed};
 ghost use Rattle.ring.specs.Append.{appendOf};
 ghost use Rattle.device_run.specs.Run.{lentBefore, lentAfter};
-ghost use Rattle.capi.specs.Calls.{packed, call, makeIn, writeIn, readIn, runCall, runIn, pictureIn, edgesCall, edgeWords, edgesHeld, offscreenIn, fenceIn, passedIn};
+ghost use Rattle.capi.specs.Calls.{packed, call, makeIn, writeIn, readIn, runCall, runIn, pictureIn};
+ghost use Rattle.capi.specs.Calls.{edgesCall, edgeWords, edgesHeld, offscreenIn, fenceIn, passedIn};
 
 fn pack(answer: u32, value: u32) -> u64
     ensures { λ r. ⌜ r ≡ packed answer value ⌝ }
@@ -137,7 +138,8 @@ pub extern "C" fn svga_picture(
     cursor: &[u32],
     output: &mut [u32],
 ) -> u32
-    ensures { λ r. ⌜ record { answer = r; output = now (output .exit) } ≡ pictureIn (now (device .entry)) (now (screen .entry)) (now (cursor .entry)) (now (output .entry)) ⌝ }
+    ensures { λ r. ⌜ record { answer = r; output = now (output .exit) }
+        ≡ pictureIn (now (device .entry)) (now (screen .entry)) (now (cursor .entry)) (now (output .entry)) ⌝ }
 {
     if device.len() != 64 {
         return 20;
