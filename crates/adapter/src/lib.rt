@@ -15,7 +15,6 @@ pub use device::Plane;
 pub use device::Registers;
 pub use device::Sizes;
 pub use device::condition_of;
-pub use device::define_cursor;
 pub use device::is_made;
 pub use device::make;
 pub use device_run::Ran;

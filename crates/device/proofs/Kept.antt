@@ -1,4 +1,4 @@
--- What making and defining keep: a made device is well-formed, and a defined cursor leaves it so.
+-- What is made is well-formed.
 -- Assumes nothing.
 use mathlib.Core.Path.{_≡_}
 use mathlib.Core.Bool.{true, false}
@@ -8,11 +8,9 @@ use Prim.Native.Nat.{ℕ}
 use native.Mathlib.Omega.{arith}
 use borrow.Author.Tests.{eq-eqb, le-leb}
 use Rattle.geometry.proofs.Tests.{by-bool, both}
-use Rattle.cursor.specs.declared.Shape.{Shape}
 use Rattle.device.specs.declared.Device.{Device}
 use Rattle.device.specs.Making.{madeOf}
-use Rattle.cursor.specs.Plane.{shapeGood}
-use Rattle.device.specs.Device.{memoryOf, pixelsOf, widthOf, heightOf, sizesGood, fresh, modeGood, conditionGood, definedGood, made, cursorDefined}
+use Rattle.device.specs.Device.{memoryOf, pixelsOf, widthOf, heightOf, sizesGood, fresh, modeGood, conditionGood, definedGood, made}
 use Rattle.device.proofs.Laws.{WellFormed}
 
 -- the converse of `well-formed`
@@ -63,10 +61,3 @@ pub make-refused : (memory pixels : ℕ) → (madeOf memory pixels .answer ≡ 3
 unfolding madeOf
 make-refused memory pixels =
     (λ e. by-bool (sizesGood memory pixels) (λ t. let m : 0 ≡ 34 = rw t at e in absurd (omega arith)) (λ f. f), λ f. rw f)
-
--- ---- defining a cursor
-
-pub defined-made : (d : Device) (s : Shape) → made d ≡ true → made (cursorDefined d s) ≡ true
-unfolding made definedGood cursorDefined
-defined-made d s m =
-    by-bool (shapeGood s) (λ t. let x = parts d m in rw (t, x .0, x .1, x .2) t) (λ f. rw f m)

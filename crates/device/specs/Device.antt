@@ -4,7 +4,6 @@ use Prim.Native.Nat.{ℕ, _+_, _/_, _%_}
 use mathlib.Core.Bool.{Bool, true, false, cond, not, _&&_}
 use lib.Dec.{eqb, ltb, leb}
 use Rattle.ring.specs.declared.Ring.{Ring}
-use Rattle.cursor.specs.declared.Shape.{Shape}
 use Rattle.cursor.specs.Plane.{shapeGood}
 use Rattle.device.specs.declared.Registers.{Registers}
 use Rattle.device.specs.declared.Plane.{Plane}
@@ -146,18 +145,3 @@ withCondition d c = record {
   busy = d .busy;
   condition = c;
 }
-
-abbrev pub withDefined : Device → Defined → Device
-withDefined d c = record {
-  sizes = d .sizes;
-  registers = d .registers;
-  plane = d .plane;
-  defined = c;
-  fence = d .fence;
-  busy = d .busy;
-  condition = d .condition;
-}
-
--- The defined cursor's record. A shape that no command can define is not taken.
-unfoldable pub cursorDefined : Device → Shape → Device
-cursorDefined d s = cond (shapeGood s) (withDefined d (Cursor s)) d

@@ -1,10 +1,9 @@
-// The device: its parts, the test of a well-formed one, making, the defined cursor.
+// The device: its parts, the test of a well-formed one, making.
 use cursor::Defined;
-use cursor::Shape;
 use order::Cause;
 use ring::Ring;
 ghost use mathlib.Core.Path.{_≡_};
-ghost use Rattle.device.specs.Device.{sizesGood, modeGood, ringGood, conditionGood, definedGood, made, conditionOf, cursorDefined};
+ghost use Rattle.device.specs.Device.{sizesGood, modeGood, ringGood, conditionGood, definedGood, made, conditionOf};
 ghost use Rattle.device.specs.Making.{creation, madeOf};
 
 // M, the bytes of the ring memory, and P, the pixels of framebuffer and screen.
@@ -165,7 +164,7 @@ pub fn is_made(d: Device) -> bool
     defined_good(defined)
 }
 
-// ---- making, defining, asking
+// ---- making, asking
 
 // A fresh device for a ring memory of memory bytes and pixels pixels.
 // Rules out: a device for a memory of 10,252 bytes; a fresh device that is enabled.
@@ -203,22 +202,6 @@ pub fn make(memory: u32, pixels: u32) -> Making
         busy: false,
         condition: Condition::Idle,
     })
-}
-
-// The device with a cursor defined: its id, hotspot and size. The cursor's pixels are in the cursor image that calls lend.
-// For the run, which calls it after its own check, and for tests; no call of document 01.
-// Rules out: a cursor of 65 by 1 defined; a definition that shows a hidden cursor, or moves one.
-pub fn define_cursor(d: Device, shape: Shape) -> Device
-    ensures { λ r. ⌜ r ≡ cursorDefined d shape ⌝ }
-{
-    let good = cursor::shape_good(shape);
-    if !good {
-        return d;
-    }
-    Device {
-        defined: Defined::Cursor(shape),
-        ..d
-    }
 }
 
 // The condition: idle, running with the remembered ring, or the fault that stands.
