@@ -32,7 +32,7 @@ use Rattle.ring.specs.Acceptance.{nextOf}
 use Rattle.ring.specs.Waiting.{after, ahead, between, words, waiting, placed, nextGood}
 use Rattle.run.specs.Run.{Scene, turnIn, stamped, left, runWords, fitting, runIn}
 use Rattle.device.specs.declared.Condition.the-variants.{Running}
-use Rattle.device.specs.Device.{sizesGood, modeGood, ringGood, conditionGood, definedGood, made}
+use Rattle.device.specs.Device.{sizesGood, modeGood, conditionGood, definedGood, made}
 use Rattle.device_run.specs.Run.{lentGood, conditionAfter, busyAfter, runBy, runOf}
 use Rattle.device_run.proofs.RunLaws.{run-by}
 use Rattle.adapter.specs.Picture.{Pictured, cursorOver, lengthsGood, pictureOf}
@@ -107,7 +107,7 @@ not-refused d ring framebuffer screen cursor budget c =
     (run-number _ (c .place) budget ring _)
 
 pub one-fence : OneFence
-unfolding sizesGood modeGood ringGood conditionGood definedGood made lentGood runOf runBy conditionAfter busyAfter runIn runWords left stamped fitting placed nextGood turnIn after ahead between words waiting runs unless turnOf kindOf headWords sizeOf headGood operandsGood actionOf decoded commands E.done screenAfter cursorAfter marksAfter
+unfolding sizesGood modeGood conditionGood definedGood made lentGood runOf runBy conditionAfter busyAfter runIn runWords left stamped fitting placed nextGood turnIn after ahead between words waiting runs unless turnOf kindOf headWords sizeOf headGood operandsGood actionOf decoded commands E.done screenAfter cursorAfter marksAfter
 one-fence rest framebuffer screen cursor r f s c = rw (r, f, s, c)
 
 -- the blue pixel of the cursor

@@ -24,7 +24,7 @@ use Rattle.order.proofs.QueueLaws.{runs-ends, runs-exec}
 use Rattle.ring.specs.declared.Ring.{Ring}
 use Rattle.ring.specs.Waiting.{waiting, carried, placed, nextGood}
 use Rattle.ring.specs.Acceptance.{usable, nextOf}
-use Rattle.ring.proofs.Laws.{Usable, usable-when, when-usable}
+use Rattle.ring.proofs.Laws.{Usable, usable-when, when-usable, Placed, placed-when}
 use Rattle.register.specs.declared.Writable.{Writable}
 use Rattle.register.specs.declared.Writable.the-variants.{Id, Enable, Width, Height, ConfigDone, Sync, GuestId, CursorId, CursorX, CursorY, CursorOn}
 use Rattle.command.proofs.Laws.{command-laws}
@@ -34,7 +34,7 @@ use Rattle.run.specs.Run.{Scene, table, turnIn, left, runWords, lost, fitting, 
 use Rattle.run.proofs.RunLaws.{run-lost, run-good}
 use Rattle.device.specs.declared.Condition.the-variants.{Idle, Running, Faulted}
 use Rattle.device.specs.declared.Device.{Device}
-use Rattle.device.specs.Device.{memoryOf, pixelsOf, configuredOf, conditionOf, sizesGood, ringGood, conditionGood, made}
+use Rattle.device.specs.Device.{memoryOf, pixelsOf, configuredOf, conditionOf, sizesGood, conditionGood, made}
 use Rattle.adapter.specs.Picture.{lengthsGood}
 use Rattle.device_run.specs.Run.{lentGood, conditionAfter}
 use Rattle.device.proofs.Laws.{well-formed}
@@ -278,33 +278,19 @@ module _ (d : Device) (m : made d ≡ true) where
   unfolding conditionGood
   not-idle c i = false≢true (rw (c, i) at (well-formed d m .condition))
 
-  ring-there : (g : Ring) → configuredOf d ≡ true → conditionOf d ≡ Running g → ringGood (memoryOf d) g ≡ true
+  ring-there : (g : Ring) → configuredOf d ≡ true → conditionOf d ≡ Running g → placed g (memoryOf d / 4) ≡ true
   unfolding conditionGood
   ring-there g c r = rw (c, r) at (well-formed d m .condition)
 
   module _ (g : Ring) (c : configuredOf d ≡ true) (r : conditionOf d ≡ Running g) where
-    ring-bounds : (4 ≤ g .min) × (g .max ≤ memoryOf d / 4) × (g .min + 2560 ≤ g .max) × (g .min ≤ g .stop) × (g .stop < g .max)
-    unfolding ringGood
-    ring-bounds =
-        let a = both _ _ (ring-there g c r) in
-        let b = both _ _ (a .1) in
-        let e = both _ _ (b .1) in
-        let f = both _ _ (e .1) in
-        (leb-true _ _ (a .0), leb-true _ _ (b .0), leb-true _ _ (e .0), leb-true _ _ (f .0), ltb-true _ _ (f .1))
+    ring-bounds : Placed g (memoryOf d / 4)
+    ring-bounds = placed-when g (memoryOf d / 4) (ring-there g c r)
 
     pub ring-carries : 8 ≤ carried (g .min) (g .max)
     ring-carries = let b = ring-bounds in omega arith
 
     pub ring-fits : (ring cursor : List ℕ) → length ring ≡ memoryOf d / 4 → length cursor ≡ 4096 → fitting g (length ring) (length cursor) ≡ true
-    unfolding fitting placed
+    unfolding fitting
     ring-fits ring cursor l k =
-        let b = ring-bounds in
-        let w = well-formed d m in
-        rw (
-          le-leb 4 (g .min) (b .0),
-          le-leb (g .min) (g .stop) (b .3),
-          lt-ltb (g .stop) (g .max) (b .4),
-          le-leb (g .max) 524288 (omega (arith, b .1, w .memory-high)),
-          le-leb (g .max) (length ring) (omega (arith, b .1)),
-        )
-        (eq-eqb (length cursor) 4096 k)
+        let small = le-leb (g .max) 524288 (omega (arith, ring-bounds .fits, well-formed d m .memory-high)) in
+        rw (l, ring-there g c r, small) (eq-eqb (length cursor) 4096 k)

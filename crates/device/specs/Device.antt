@@ -1,9 +1,9 @@
 -- The device: document 01, "What is lent". Fields are the code's; here are the fresh device, the test of a well-formed one, and the
 -- device with one part changed.
-use Prim.Native.Nat.{ℕ, _+_, _/_, _%_}
+use Prim.Native.Nat.{ℕ, _/_, _%_}
 use mathlib.Core.Bool.{Bool, true, false, cond, not, _&&_}
-use lib.Dec.{eqb, ltb, leb}
-use Rattle.ring.specs.declared.Ring.{Ring}
+use lib.Dec.{eqb, leb}
+use Rattle.ring.specs.Waiting.{placed}
 use Rattle.cursor.specs.Plane.{shapeGood}
 use Rattle.device.specs.declared.Registers.{Registers}
 use Rattle.device.specs.declared.Plane.{Plane}
@@ -78,15 +78,10 @@ fresh memory pixels = record {
 unfoldable pub modeGood : ℕ → ℕ → Bool
 modeGood width height = leb 1 width && (leb width 2560 && (leb 1 height && leb height 1600))
 
--- The remembered ring lies in the ring memory as acceptance asks; all in words.
-unfoldable pub ringGood : ℕ → Ring → Bool
-ringGood memory g =
-    leb 4 (g .min) && (leb (g .max) (memory / 4) && (leb (g .min + 2560) (g .max) && (leb (g .min) (g .stop) && ltb (g .stop) (g .max))))
-
 -- A device with CONFIG_DONE 1 has a ring, or a fault that stands; with CONFIG_DONE 0 it has no ring.
 unfoldable pub conditionGood : ℕ → Bool → Condition → Bool
 conditionGood memory config Idle = not config
-conditionGood memory config (Running g) = cond config (ringGood memory g) false
+conditionGood memory config (Running g) = cond config (placed g (memory / 4)) false
 conditionGood memory config (Faulted c) = true
 
 -- The defined cursor is one that a command may define.

@@ -3,7 +3,7 @@ use cursor::Defined;
 use order::Cause;
 use ring::Ring;
 ghost use mathlib.Core.Path.{_≡_};
-ghost use Rattle.device.specs.Device.{sizesGood, modeGood, ringGood, conditionGood, definedGood, made, conditionOf};
+ghost use Rattle.device.specs.Device.{sizesGood, modeGood, conditionGood, definedGood, made, conditionOf};
 ghost use Rattle.device.specs.Making.{creation, madeOf};
 
 // M, the bytes of the ring memory, and P, the pixels of framebuffer and screen.
@@ -90,24 +90,6 @@ fn mode_good(width: u32, height: u32) -> bool
     height <= 1600
 }
 
-fn ring_good(memory: u32, ring: Ring) -> bool
-    ensures { λ r. ⌜ r ≡ ringGood memory ring ⌝ }
-{
-    if ring.min < 4 {
-        return false;
-    }
-    if memory / 4 < ring.max {
-        return false;
-    }
-    if (ring.max as u64) < ring.min as u64 + 2560 {
-        return false;
-    }
-    if ring.stop < ring.min {
-        return false;
-    }
-    ring.stop < ring.max
-}
-
 fn condition_good(memory: u32, config: bool, condition: Condition) -> bool
     ensures { λ r. ⌜ r ≡ conditionGood memory config condition ⌝ }
 {
@@ -117,7 +99,7 @@ fn condition_good(memory: u32, config: bool, condition: Condition) -> bool
         }
         Condition::Running(ring) => {
             if config {
-                return ring_good(memory, ring);
+                return ring::is_placed(ring, (memory / 4) as usize);
             }
             return false;
         }

@@ -3,17 +3,18 @@
 use mathlib.Core.Path.{_≡_, refl}
 use mathlib.Core.Bool.{Bool, true, false, _&&_, and-assoc}
 use mathlib.Core.List.{List}
-use Prim.Native.Nat.{ℕ, _+_, _/_}
+use Prim.Native.Nat.{ℕ, _/_}
 use native.Mathlib.Omega.{arith}
 use lib.Dec.{eqb, leb}
 use lib.ListN.{length}
-use borrow.Author.Tests.{eqb-true, le-leb, lt-ltb}
+use borrow.Author.Tests.{eqb-true}
 use Rattle.geometry.proofs.Tests.{by-bool, both}
 use Rattle.ring.specs.declared.Ring.{Ring}
 use Rattle.ring.specs.declared.Acceptance.{Acceptance}
 use Rattle.ring.specs.declared.Acceptance.the-variants.{Accepted, Refused as RingRefused}
 use Rattle.ring.specs.Acceptance.{accepted}
-use Rattle.ring.proofs.Laws.{accepted-ring}
+use Rattle.ring.specs.Waiting.{placed}
+use Rattle.ring.proofs.Laws.{accepted-placed}
 use Rattle.register.specs.declared.Register.{Register}
 use Rattle.register.specs.declared.Register.the-variants.{Writes, Reads, Absent}
 use Rattle.register.specs.declared.Writable.{Writable}
@@ -24,7 +25,7 @@ use Rattle.device.specs.declared.Plane.{Plane}
 use Rattle.device.specs.declared.Condition.{Condition}
 use Rattle.device.specs.declared.Condition.the-variants.{Idle, Running, Faulted}
 use Rattle.device.specs.declared.Device.{Device}
-use Rattle.device.specs.Device.{memoryOf, widthOf, heightOf, modeGood, ringGood, conditionGood, made, withRegisters, withPlane, withBusy, withCondition}
+use Rattle.device.specs.Device.{memoryOf, widthOf, heightOf, modeGood, conditionGood, made, withRegisters, withPlane, withBusy, withCondition}
 use Rattle.register_write.specs.Answers.{Outcome}
 use Rattle.register_write.specs.Registers.{taken, refused, isId, idWritten, enableWritten, widthWritten, heightWritten, idled, configured, unconfigured, acceptedWritten, configDoneWritten, running, synced, cursorOnWritten, writableWritten, writtenBy, written}
 use Rattle.device.proofs.Kept.{parts}
@@ -38,20 +39,7 @@ pub data Left (d : Device) : Outcome → Type 0 where
   changed : (g : Registers) (p : Plane) (busy : Bool) → modeGood (g .width) (g .height) ≡ true → g .config ≡ d .registers .config
       → Left d (taken (withBusy (withPlane (withRegisters d g) p) busy))
   forgotten : Left d (taken (unconfigured d))
-  remembered : (g : Ring) → ringGood (memoryOf d) g ≡ true → Left d (taken (withCondition (configured d true) (Running g)))
-
--- an accepted ring lies in a ring memory of its length
-ring-good : (memory : ℕ) (ring : List ℕ) (g : Ring) → length ring ≡ memory / 4 → accepted ring ≡ Accepted g → ringGood memory g ≡ true
-unfolding ringGood
-ring-good memory ring g n e =
-    let a = accepted-ring ring g e in
-    rw (
-      le-leb 4 (g .min) (omega arith),
-      le-leb (g .max) (memory / 4) (omega arith),
-      le-leb (g .min + 2560) (g .max) (omega arith),
-      le-leb (g .min) (g .stop) (omega arith),
-      lt-ltb (g .stop) (g .max) (omega arith),
-    )
+  remembered : (g : Ring) → placed g (memoryOf d / 4) ≡ true → Left d (taken (withCondition (configured d true) (Running g)))
 
 mode-halves : (width height : ℕ) → modeGood width height ≡ (leb 1 width && leb width 2560) && (leb 1 height && leb height 1600)
 unfolding modeGood
@@ -82,7 +70,7 @@ module _ (d : Device) (ring : List ℕ) (v : ℕ) (mode : modeGood (widthOf d) (
 
   left-accepted : (a : Acceptance) → length ring ≡ memoryOf d / 4 → accepted ring ≡ a → Left d (acceptedWritten d a)
   unfolding acceptedWritten
-  left-accepted (Accepted g) n e = remembered g (ring-good (memoryOf d) ring g n e)
+  left-accepted (Accepted g) n e = remembered g (rw n at (accepted-placed ring g e))
   left-accepted RingRefused n e = same 33
 
   left-config-done : Left d (configDoneWritten d ring v)

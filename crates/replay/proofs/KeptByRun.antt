@@ -22,7 +22,8 @@ use Rattle.order.specs.Queue.{Ran, runs}
 use Rattle.order.proofs.QueueLaws.{runs-ends, runs-exec}
 use Rattle.ring.specs.declared.Ring.{Ring}
 use Rattle.ring.specs.Acceptance.{nextOf}
-use Rattle.ring.specs.Waiting.{ahead, between, words, waiting, carried, nextGood}
+use Rattle.ring.specs.Waiting.{ahead, between, words, waiting, carried, placed, nextGood}
+use Rattle.ring.proofs.Laws.{placed-when, when-placed}
 use Rattle.ring.proofs.WaitingLaws.{InRing, ahead-in, between-carried, length-words}
 use Rattle.geometry.specs.declared.Rect.{Rect}
 use Rattle.geometry.specs.Pixels.{inRect, inArea}
@@ -47,7 +48,7 @@ use Rattle.run.proofs.Found.{Found, on-to, found}
 use Rattle.device.specs.declared.Condition.{Condition}
 use Rattle.device.specs.declared.Condition.the-variants.{Idle, Running, Faulted}
 use Rattle.device.specs.declared.Device.{Device}
-use Rattle.device.specs.Device.{memoryOf, pixelsOf, widthOf, heightOf, ringGood, conditionGood, definedGood, made}
+use Rattle.device.specs.Device.{memoryOf, pixelsOf, widthOf, heightOf, conditionGood, definedGood, made}
 use Rattle.device_run.specs.Run.{RunOutcome, lentGood, conditionAfter, settled, machineOf, ran, refusedRun, runBy, runOf}
 use Rattle.device.proofs.Laws.{well-formed}
 use Rattle.device.proofs.Kept.{made-of}
@@ -433,25 +434,25 @@ module _ (d : Device) (ring framebuffer screen cursor : List ℕ) where
     left-stays budget = run-stays (scene (widthOf d) (heightOf d) framebuffer) g budget ring (machineOf d screen cursor)
 
     -- and the remembered ring good
-    pub open-ring : ringGood (memoryOf d) g ≡ true
+    pub open-ring : placed g (memoryOf d / 4) ≡ true
     unfolding conditionGood
     open-ring =
         let c : conditionGood (memoryOf d) (d .registers .config) (d .condition) ≡ true = well-formed d (o .is-made) .condition in
         let q : conditionGood (memoryOf d) true (Running g) ≡ true = rw (o .is-configured, o .running) at c in
         q
 
-  ring-kept : (memory : ℕ) (g : Ring) (r : Outcome) → Stays g ring r → ringGood memory g ≡ true → ringGood memory (r .place) ≡ true
-  unfolding ringGood
-  ring-kept memory g r s e =
-      let a = both (leb 4 (g .min)) _ e in
-      let b = both (leb (g .max) (memory / 4)) _ (a .1) in
-      let c = both (leb (g .min + 2560) (g .max)) _ (b .1) in
-      let f = both (leb (g .min) (g .stop)) _ (c .1) in
-      let from = leb-true (g .min) (g .stop) (f .0) in
-      let below = ltb-true (g .stop) (g .max) (f .1) in
-      rw (s .min, s .max, a .0, b .0, c .0, le-leb (g .min) (r .place .stop) (s .stop-low from below)) (lt-ltb (r .place .stop) (g .max) (s .stop-high from below))
+  ring-kept : (words : ℕ) (g : Ring) (r : Outcome) → Stays g ring r → placed g words ≡ true → placed (r .place) words ≡ true
+  ring-kept words g r s e =
+      let p = placed-when g words e in
+      when-placed (r .place) words (record {
+        past-head = rw (s .min) (p .past-head);
+        fits = rw (s .max) (p .fits);
+        size = rw (s .min, s .max) (p .size);
+        from = rw (s .min) (s .stop-low (p .from) (p .below));
+        below = rw (s .max) (s .stop-high (p .from) (p .below));
+      })
 
-  condition-kept : (memory : ℕ) (a : Answer) (g : Ring) → ringGood memory g ≡ true → conditionGood memory true (conditionAfter a g) ≡ true
+  condition-kept : (memory : ℕ) (a : Answer) (g : Ring) → placed g (memory / 4) ≡ true → conditionGood memory true (conditionAfter a g) ≡ true
   unfolding conditionGood conditionAfter
   condition-kept memory spent g e = e
   condition-kept memory standing g e = e
@@ -462,7 +463,7 @@ module _ (d : Device) (ring framebuffer screen cursor : List ℕ) where
   settled-made : (budget : ℕ) (g : Ring) → Open g → made (settled d (ranIn budget g)) ≡ true
   settled-made budget g o =
       let w = well-formed d (o .is-made) in
-      let place = ring-kept (memoryOf d) g (ranIn budget g) (left-stays g o budget) (open-ring g o) in
+      let place = ring-kept (memoryOf d / 4) g (ranIn budget g) (left-stays g o budget) (open-ring g o) in
       made-of (settled d (ranIn budget g)) (record {
         memory-words = w .memory-words;
         memory-low = w .memory-low;

@@ -23,7 +23,7 @@ use Rattle.ring.specs.declared.Ring.{Ring}
 use Rattle.ring.specs.Acceptance.{minOf, maxOf, nextOf, stopOf, usable}
 use Rattle.ring.specs.Append.{canAppend, appendTo, appendOf}
 use Rattle.ring.specs.Waiting.{ahead, between, words, waiting, carried, placed, nextGood}
-use Rattle.ring.proofs.Laws.{usable-when}
+use Rattle.ring.proofs.Laws.{usable-when, when-placed}
 use Rattle.ring.proofs.WaitingLaws.{by-test, length-waiting}
 use Rattle.ring.proofs.AppendLaws.{append-refused, length-append-to, append-keeps, append-waits, append-full}
 use Rattle.command.proofs.Laws.{command-laws}
@@ -33,7 +33,7 @@ use Rattle.run.specs.Run.{Scene, scene, table, stamped, left, runWords, fitting
 use Rattle.device.specs.declared.Device.{Device}
 use Rattle.device.specs.declared.Condition.{Condition}
 use Rattle.device.specs.declared.Condition.the-variants.{Running, Faulted}
-use Rattle.device.specs.Device.{memoryOf, pixelsOf, widthOf, heightOf, enabledOf, configuredOf, conditionOf, sizesGood, modeGood, ringGood, conditionGood, made}
+use Rattle.device.specs.Device.{memoryOf, pixelsOf, widthOf, heightOf, enabledOf, configuredOf, conditionOf, sizesGood, modeGood, conditionGood, made}
 use Rattle.device_run.specs.Run.{RunOutcome, lentGood, conditionAfter, ran, runBy, runOf}
 use Rattle.device.proofs.Laws.{well-formed}
 use Rattle.replay.specs.Calls.{World, withRing, Outcome, append, run, perform}
@@ -215,18 +215,14 @@ module _ (g : Ring) (w₀ : World) where
     places : InWords (g .min) (g .max) memory
     places = in-words (g .min) (g .max) memory (s .holds)
 
-    condition-good : (f : Option Cause) → conditionGood (memoryOf (w₀ .device)) true (conditionFor f now) ≡ true
-    unfolding conditionGood ringGood
-    condition-good none =
+    placed-now : placed now (length memory) ≡ true
+    placed-now =
         let i = places in
-        let l = s .ring-length in
-        rw (
-          le-leb 4 (g .min) (i .head),
-          le-leb (g .max) (memoryOf (w₀ .device) / 4) (omega arith),
-          le-leb (g .min + 2560) (g .max) (i .wide),
-          le-leb (g .min) (stopOf memory / 4) (i .stop-from),
-          lt-ltb (stopOf memory / 4) (g .max) (i .stop-below),
-        )
+        when-placed now (length memory) (record { past-head = i .head; fits = i .long; size = i .wide; from = i .stop-from; below = i .stop-below })
+
+    condition-good : (f : Option Cause) → conditionGood (memoryOf (w₀ .device)) true (conditionFor f now) ≡ true
+    unfolding conditionGood
+    condition-good none = rw (← (s .ring-length)) placed-now
     condition-good (some c) = refl
 
     made-now : made (w .device) ≡ true
@@ -254,18 +250,11 @@ module _ (g : Ring) (w₀ : World) where
         ∙ ap (runBy (w .device) memory (w .lent .framebuffer) (w .lent .screen) (w .lent .cursor) b) (s .condition)
 
     fits-now : fitting now (length memory) (length (machineIn w .cursor)) ≡ true
-    unfolding fitting placed
+    unfolding fitting
     fits-now =
         let i = places in
         let l = s .ring-length in
-        rw (
-          le-leb 4 (g .min) (i .head),
-          le-leb (g .min) (stopOf memory / 4) (i .stop-from),
-          lt-ltb (stopOf memory / 4) (g .max) (i .stop-below),
-          le-leb (g .max) 524288 (omega (arith, st .small)),
-          le-leb (g .max) (length memory) (i .long),
-          eq-eqb _ _ (s .sound .cursor),
-        )
+        rw (placed-now, le-leb (g .max) 524288 (omega (arith, st .small)), eq-eqb _ _ (s .sound .cursor))
 
     next-now : nextGood now (nextOf memory) ≡ true
     unfolding nextGood

@@ -2,7 +2,7 @@
 use Prim.Native.Nat.{ℕ, _-_, _*_, _/_}
 use mathlib.Core.Bool.{Bool, cond, _&&_}
 use mathlib.Core.List.{List}
-use lib.Dec.{eqb}
+use lib.Dec.{eqb, leb}
 use lib.ListN.{length, set}
 use Rattle.order.specs.declared.End.the-variants.{Fault}
 use Rattle.order.specs.declared.Cause.the-variants.{BadNext}
@@ -101,9 +101,9 @@ runWords turn g budget ring words m = left g ring words (Queue.runs turn budget 
 unfoldable pub lost : ℕ → Claim.Answer
 lost budget = cond (eqb budget 0) Claim.spent (Claim.ended (Fault BadNext))
 
--- The remembered ring lies in the ring memory, and the cursor image has its 4,096 words.
+-- The remembered ring lies in the ring memory, and in the largest that a device can have, 2,097,152 bytes; the cursor image has its 4,096 words.
 unfoldable pub fitting : Ring → ℕ → ℕ → Bool
-fitting g words image = placed g words && eqb image 4096
+fitting g words image = placed g words && (leb (g .max) 524288 && eqb image 4096)
 
 -- A run. With a ring that lies outside its memory, or another cursor image, it does nothing and answers 13; no device gets there.
 unfoldable pub runIn : Scene → Ring → ℕ → List ℕ → Machine → Outcome

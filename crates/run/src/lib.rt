@@ -426,6 +426,9 @@ fn is_fitting(at: Ring, words: usize, image: usize) -> bool
     if !there {
         return false;
     }
+    if 524288 < at.max {
+        return false;
+    }
     image == 4096
 }
 
