@@ -17,6 +17,7 @@ pub use device::Sizes;
 pub use device::condition_of;
 pub use device::is_made;
 pub use device::make;
+pub use device::mode_fits;
 pub use device_run::Ran;
 pub use device_run::RunAnswer;
 pub use device_run::is_ready;
@@ -111,7 +112,8 @@ pub fn picture(d: Device, screen: &[u32], image: &[u32], output: &mut [u32]) -> 
         return PictureAnswer::WrongLength;
     }
     let g = d.registers;
-    if pixels < g.width as usize * g.height as usize {
+    let fits = mode_fits(d);
+    if !fits {
         return PictureAnswer::TooLarge;
     }
     let over = cursor_over(d);

@@ -1,11 +1,10 @@
 -- Document 01, "How tight the promises are": "These impostors have to be caught". For each a list of operations with the answers that it gives, a device
 -- or a picture on which it breaks a claim or an equation that the code is held to.
-use Prim.Native.Nat.{ℕ, _*_, _≤_}
+use Prim.Native.Nat.{ℕ, _≤_}
 use mathlib.Core.Path.{_≡_}
 use mathlib.Core.Bool.{true, false}
 use mathlib.Core.Option.{Option}
 use mathlib.Core.List.{List, [], _∷_, _++_}
-use lib.Dec.{leb}
 use lib.ListN.{length}
 use Rattle.cursor.specs.declared.Defined.the-variants.{Undefined, Cursor}
 use Rattle.order.specs.declared.Cause.{Cause}
@@ -18,7 +17,7 @@ use Rattle.effect.specs.Effects.{Machine}
 use Rattle.run.specs.Run.{Scene, table}
 use Rattle.device.specs.declared.Condition.the-variants.{Idle, Running}
 use Rattle.device.specs.declared.Device.{Device}
-use Rattle.device.specs.Device.{pixelsOf, widthOf, heightOf, freshRegisters, made}
+use Rattle.device.specs.Device.{freshRegisters, modeFits, made}
 use Rattle.register_write.specs.Registers.{setMode, setState}
 use Rattle.device_run.specs.Run.{lentGood, runOf}
 use Rattle.adapter.specs.Picture.{pictureOf}
@@ -84,7 +83,7 @@ pub record CanRun (d : Device) (ring framebuffer screen cursor : List ℕ) : Typ
   pub lent : lentGood d (length ring) (length framebuffer) (length screen) (length cursor) ≡ true
   pub configured : d .registers .config ≡ true
   pub enabled : d .registers .enable ≡ true
-  pub fits : leb (widthOf d * heightOf d) (pixelsOf d) ≡ true
+  pub fits : modeFits d ≡ true
   pub place : Ring
   pub running : d .condition ≡ Running place
 

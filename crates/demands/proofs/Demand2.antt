@@ -12,7 +12,7 @@ use mathlib.Core.Option.{none}
 use mathlib.Core.Logic.{_↔_, _⊎_, inl, inr, ⊎-elim, Iff·trans}
 use Prim.Native.Nat.{ℕ, _*_, _≤_, min}
 use native.Mathlib.Omega.{arith}
-use lib.Dec.{eqb, leb}
+use lib.Dec.{eqb}
 use borrow.Author.Tests.{eqb-true, eqb-false, leb-true, le-leb, lt-leb}
 use Rattle.geometry.proofs.Tests.{by-bool}
 use Rattle.order.specs.declared.Cause.{Cause}
@@ -34,7 +34,7 @@ use Rattle.effect.specs.Effects.{Machine, done}
 use Rattle.run.specs.Run.{scene, runIn}
 use Rattle.device.specs.declared.Condition.the-variants.{Faulted}
 use Rattle.device.specs.declared.Device.{Device}
-use Rattle.device.specs.Device.{pixelsOf, widthOf, heightOf, conditionOf, sizesGood, made}
+use Rattle.device.specs.Device.{pixelsOf, widthOf, heightOf, conditionOf, sizesGood, modeFits, made}
 use Rattle.device.specs.Making.{Creation, madeOf}
 use Rattle.register_write.specs.Answers.{Outcome}
 use Rattle.register_read.specs.Answers.{Reading}
@@ -332,7 +332,7 @@ module _ (d : Device) (screen image output : List ℕ) where
       let l = picture-lent d screen image output in
       by-bool (PictureRefusals.lent d screen image output)
       (λ t.
-      by-bool (leb (widthOf d * heightOf d) (pixelsOf d))
+      by-bool (modeFits d)
       (λ f. rw (m, t, f) (λ e. (l .0 t, leb-true _ _ f), λ x. refl))
       (λ f. rw (m, t, f) (λ e. absurd (omega arith), λ x. not-both _ (le-leb _ _ (x .1)) f)))
       (λ t. rw (m, t) (λ e. absurd (omega arith), λ x. not-both _ (l .1 (x .0)) t))

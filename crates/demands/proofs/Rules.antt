@@ -27,7 +27,7 @@ use Rattle.run.specs.Run.{scene, Outcome, fitting, runIn}
 use Rattle.device.specs.declared.Condition.{Condition}
 use Rattle.device.specs.declared.Condition.the-variants.{Idle, Running, Faulted}
 use Rattle.device.specs.declared.Device.{Device}
-use Rattle.device.specs.Device.{pixelsOf, widthOf, heightOf, enabledOf, configuredOf, conditionOf, made}
+use Rattle.device.specs.Device.{pixelsOf, widthOf, heightOf, enabledOf, configuredOf, conditionOf, modeFits, made}
 use Rattle.register_write.specs.Registers.{written}
 use Rattle.device_run.specs.Run.{RunOutcome, lentGood, machineOf, ran, refusedRun, runBy, runOf}
 use Rattle.register_write.proofs.Refusals.{Why, no-register, read-only, bad-value, wrong-length, ring-refused, is-taken, why}
@@ -116,7 +116,7 @@ module _ (d : Device) (ring framebuffer screen cursor : List ℕ) where
         (λ c.
         by-cond P (enabledOf d)
         (λ e.
-        by-cond P (leb (widthOf d * heightOf d) (pixelsOf d))
+        by-cond P (modeFits d)
         (λ f. go m (is-lent .0 l) c e (leb-true _ _ f) (conditionOf d) refl)
         (λ f. on-24 (is-lent .0 l, c, e, leb-false _ _ f)))
         (λ e. on-21 (is-lent .0 l, c, e)))

@@ -50,9 +50,6 @@ well-formed d e =
       defined = rest .1;
     }
 
--- the mode's pixels and bytes fit 32 bits
-pub mode-fits : (d : Device) → WellFormed d → widthOf d * heightOf d ≤ 4096000
-mode-fits d w = mul-le-mul (w .width-high) (w .height-high)
-
+-- the mode's bytes fit 32 bits
 pub fb-size-fits : (d : Device) → WellFormed d → 4 * widthOf d * heightOf d ≤ 16384000
 fb-size-fits d w = mul-le-mul {n₂ = 10240} {m₂ = 1600} (omega arith) (w .height-high)

@@ -1,6 +1,6 @@
 -- The device: document 01, "What is lent". Fields are the code's; here are the fresh device, the test of a well-formed one, and the
 -- device with one part changed.
-use Prim.Native.Nat.{ℕ, _/_, _%_}
+use Prim.Native.Nat.{ℕ, _*_, _/_, _%_}
 use mathlib.Core.Bool.{Bool, true, false, cond, not, _&&_}
 use lib.Dec.{eqb, leb}
 use Rattle.ring.specs.Waiting.{placed}
@@ -77,6 +77,10 @@ fresh memory pixels = record {
 -- "2 WIDTH (1 to 2,560), 3 HEIGHT (1 to 1,600)"
 unfoldable pub modeGood : ℕ → ℕ → Bool
 modeGood width height = leb 1 width && (leb width 2560 && (leb 1 height && leb height 1600))
+
+-- "width·height above P" is 24; otherwise the mode's rows fit framebuffer and screen.
+abbrev pub modeFits : Device → Bool
+modeFits d = leb (widthOf d * heightOf d) (pixelsOf d)
 
 -- A device with CONFIG_DONE 1 has a ring, or a fault that stands; with CONFIG_DONE 0 it has no ring.
 unfoldable pub conditionGood : ℕ → Bool → Condition → Bool

@@ -3,7 +3,7 @@ use cursor::Defined;
 use order::Cause;
 use ring::Ring;
 ghost use mathlib.Core.Path.{_≡_};
-ghost use Rattle.device.specs.Device.{sizesGood, modeGood, conditionGood, definedGood, made, conditionOf};
+ghost use Rattle.device.specs.Device.{sizesGood, modeGood, conditionGood, definedGood, made, modeFits, conditionOf};
 ghost use Rattle.device.specs.Making.{creation, madeOf};
 
 // M, the bytes of the ring memory, and P, the pixels of framebuffer and screen.
@@ -184,6 +184,16 @@ pub fn make(memory: u32, pixels: u32) -> Making
         busy: false,
         condition: Condition::Idle,
     })
+}
+
+// Whether the mode's pixels are at most P.
+// Rules out: a mode of 65,536 by 65,536 that fits since its product wraps.
+pub fn mode_fits(d: Device) -> bool
+    ensures { λ r. ⌜ r ≡ modeFits d ⌝ }
+{
+    let sizes = d.sizes;
+    let g = d.registers;
+    g.width as u64 * g.height as u64 <= sizes.pixels as u64
 }
 
 // The condition: idle, running with the remembered ring, or the fault that stands.

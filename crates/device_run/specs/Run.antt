@@ -1,8 +1,8 @@
 -- A run of a device: document 01, "One command out of the ring" and "Answer numbers".
-use Prim.Native.Nat.{ℕ, _*_, _/_}
+use Prim.Native.Nat.{ℕ, _/_}
 use mathlib.Core.Bool.{Bool, false, cond, _&&_}
 use mathlib.Core.List.{List}
-use lib.Dec.{eqb, leb}
+use lib.Dec.{eqb}
 use lib.ListN.{length}
 use Rattle.order.specs.declared.End.the-variants.{Drained, Waiting, Fault}
 use Rattle.order.specs.Straight.{endNumber}
@@ -16,7 +16,7 @@ use Rattle.device.specs.declared.Device.{Device}
 use Rattle.device_run.specs.declared.Ran.{Ran}
 use Rattle.device_run.specs.declared.RunAnswer.{RunAnswer}
 use Rattle.device_run.specs.declared.RunAnswer.the-variants.{Spent, Ended, WrongLength, Disabled, NotConfigured, FaultStands, TooLarge}
-use Rattle.device.specs.Device.{memoryOf, pixelsOf, widthOf, heightOf, enabledOf, configuredOf, made}
+use Rattle.device.specs.Device.{memoryOf, pixelsOf, widthOf, heightOf, enabledOf, configuredOf, modeFits, made}
 
 -- run: 0 drained, 1 waiting for the rest of a command, 2 budget spent, 10 to 13 a fault, 20 lent length, 21 disabled, 22 not configured, 23 fault
 -- already standing, 24 width·height above P
@@ -58,7 +58,7 @@ unfoldable pub ready : Device → ℕ → ℕ → ℕ → ℕ → Bool
 ready d ring framebuffer screen cursor =
     made d
     && (lentGood d ring framebuffer screen cursor
-    && (configuredOf d && (enabledOf d && leb (widthOf d * heightOf d) (pixelsOf d))))
+    && (configuredOf d && (enabledOf d && modeFits d)))
 
 -- "A fault consumes nothing of its command and stands until CONFIG_DONE 1 is accepted"; else the ring is remembered with STOP as the run left it.
 unfoldable pub conditionAfter : Answer → Ring → Condition
@@ -118,7 +118,7 @@ module _ (d : Device) (ring framebuffer screen cursor : List ℕ) where
       (cond (lentGood d (length ring) (length framebuffer) (length screen) (length cursor))
       (cond (d .registers .config)
       (cond (d .registers .enable)
-      (cond (leb (widthOf d * heightOf d) (pixelsOf d)) (runBy budget (d .condition)) (refusedRun 24))
+      (cond (modeFits d) (runBy budget (d .condition)) (refusedRun 24))
       (refusedRun 21))
       (refusedRun 22))
       (refusedRun 20))

@@ -2,6 +2,7 @@
 use device::Condition;
 use device::Device;
 use device::is_made;
+use device::mode_fits;
 use effect::Marks;
 use order::End;
 use ring::Ring;
@@ -197,8 +198,8 @@ pub fn run(
     if !g.enable {
         return refused(d, RunAnswer::Disabled);
     }
-    let sizes = d.sizes;
-    if (sizes.pixels as usize) < g.width as usize * g.height as usize {
+    let fits = mode_fits(d);
+    if !fits {
         return refused(d, RunAnswer::TooLarge);
     }
     let condition = d.condition;
@@ -225,8 +226,7 @@ pub fn is_ready(d: Device, ring: usize, framebuffer: usize, screen: usize, curso
     let g = d.registers;
     if g.config {
         if g.enable {
-            let sizes = d.sizes;
-            return g.width * g.height <= sizes.pixels;
+            return mode_fits(d);
         }
     }
     false

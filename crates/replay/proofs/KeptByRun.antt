@@ -10,7 +10,7 @@ use native.Mathlib.Omega.{arith}
 use lib.Dec.{eqb, ltb, leb}
 use lib.ListN.{length, getD, take, length-set, length-take, length-drop, length-append, List·getD-eq-default}
 use lib.Seq.{getD-set-other}
-use borrow.Author.Tests.{eqb-true, leb-true, ltb-true, ltb-false, eq-eqb, le-leb, lt-ltb, le-ltb}
+use borrow.Author.Tests.{eqb-true, ltb-true, ltb-false, eq-eqb, le-ltb}
 use Rattle.geometry.proofs.Tests.{by-bool, both}
 use Rattle.order.specs.declared.End.the-variants.{Drained, Waiting, Fault}
 use Rattle.order.specs.declared.Cause.the-variants.{NotOffered, BadOperand, TooLong, BadNext}
@@ -48,7 +48,7 @@ use Rattle.run.proofs.Found.{Found, on-to, found}
 use Rattle.device.specs.declared.Condition.{Condition}
 use Rattle.device.specs.declared.Condition.the-variants.{Idle, Running, Faulted}
 use Rattle.device.specs.declared.Device.{Device}
-use Rattle.device.specs.Device.{memoryOf, pixelsOf, widthOf, heightOf, conditionGood, definedGood, made}
+use Rattle.device.specs.Device.{memoryOf, pixelsOf, widthOf, heightOf, conditionGood, definedGood, modeFits, made}
 use Rattle.device_run.specs.Run.{RunOutcome, lentGood, conditionAfter, settled, machineOf, ran, refusedRun, runBy, runOf}
 use Rattle.device.proofs.Laws.{well-formed}
 use Rattle.device.proofs.Kept.{made-of}
@@ -376,7 +376,7 @@ module _ (d : Device) (ring framebuffer screen cursor : List ℕ) where
     pub lengths : lentGood d (length ring) (length framebuffer) (length screen) (length cursor) ≡ true
     pub is-configured : d .registers .config ≡ true
     pub is-enabled : d .registers .enable ≡ true
-    pub mode : leb (widthOf d * heightOf d) (pixelsOf d) ≡ true
+    pub mode : modeFits d ≡ true
     pub running : d .condition ≡ Running g
 
   abbrev pub ranIn : ℕ → Ring → Outcome
@@ -406,7 +406,7 @@ module _ (d : Device) (ring framebuffer screen cursor : List ℕ) where
       (λ m. by-cond P (lentGood d (length ring) (length framebuffer) (length screen) (length cursor))
       (λ l. by-cond P (d .registers .config)
       (λ c. by-cond P (d .registers .enable)
-      (λ e. by-cond P (leb (widthOf d * heightOf d) (pixelsOf d))
+      (λ e. by-cond P (modeFits d)
       (λ f. by-condition P budget (d .condition) refl no-run
       (λ g r. goes g (record { is-made = m; lengths = l; is-configured = c; is-enabled = e; mode = f; running = r })))
       (λ f. no-run 24 too-large))

@@ -6,7 +6,7 @@ use mathlib.Core.List.{List, [], _∷_}
 use mathlib.Core.Logic.{inl, inr}
 use Prim.Native.Nat.{ℕ, zero, suc, _*_, _≤_, _<_}
 use native.Mathlib.Omega.{arith}
-use lib.Dec.{eqb, ltb, leb}
+use lib.Dec.{eqb, ltb}
 use lib.ListN.{length, getD, List·getD-eq-default}
 use borrow.Author.Tests.{ltb-true, ltb-false, eq-eqb}
 use Rattle.geometry.proofs.Tests.{by-bool}
@@ -24,7 +24,7 @@ use Rattle.picture.specs.declared.Over.{Over}
 use Rattle.picture.specs.Picture.{composed}
 use Rattle.picture.proofs.Laws.{length-composed, beyond-stays}
 use Rattle.device.specs.declared.Device.{Device}
-use Rattle.device.specs.Device.{pixelsOf, widthOf, heightOf, sizesGood, made}
+use Rattle.device.specs.Device.{pixelsOf, widthOf, heightOf, sizesGood, modeFits, made}
 use Rattle.device.specs.Making.{madeOf}
 use Rattle.register_write.specs.Answers as A
 use Rattle.register_read.specs.Registers.{readBy, readOf}
@@ -111,7 +111,7 @@ picture-answers w =
     let d = w .device in
     by-bool (made d)
     (λ m. by-bool (lengthsGood (pixelsOf d) (length (w .lent .screen)) (length (w .lent .cursor)) (length (w .lent .output)))
-    (λ l. by-bool (leb (widthOf d * heightOf d) (pixelsOf d)) (λ t. rw (m, l, t)) (λ f. rw (m, l, f)))
+    (λ l. by-bool (modeFits d) (λ t. rw (m, l, t)) (λ f. rw (m, l, f)))
     (λ l. rw (m, l)))
     (λ f. rw f)
 
@@ -222,7 +222,7 @@ module _ (w : World) where
   output-changes =
       by-bool (made d)
       (λ y. by-bool (lengthsGood (pixelsOf d) (length (m .screen)) (length (m .cursor)) (length (m .output)))
-      (λ l. by-bool (leb (widthOf d * heightOf d) (pixelsOf d)) (λ t. rw (y, l, t) (composed-changes (cursorOver d (d .defined)) y)) (λ f. rw (y, l, f) (all-same (m .output))))
+      (λ l. by-bool (modeFits d) (λ t. rw (y, l, t) (composed-changes (cursorOver d (d .defined)) y)) (λ f. rw (y, l, f) (all-same (m .output))))
       (λ l. rw (y, l) (all-same (m .output))))
       (λ f. rw f (all-same (m .output)))
 

@@ -25,7 +25,7 @@ use Rattle.device.specs.declared.Registers.{Registers}
 use Rattle.device.specs.declared.Plane.{Plane}
 use Rattle.device.specs.declared.Condition.{Condition}
 use Rattle.device.specs.declared.Condition.the-variants.{Idle, Running, Faulted}
-use Rattle.device.specs.Device.{memoryOf, pixelsOf, widthOf, heightOf, enabledOf, configuredOf, conditionOf, definedOf, sizesGood, fresh, conditionGood, made, withRegisters, withPlane, withBusy, withCondition}
+use Rattle.device.specs.Device.{memoryOf, widthOf, heightOf, enabledOf, configuredOf, conditionOf, definedOf, sizesGood, fresh, conditionGood, modeFits, made, withRegisters, withPlane, withBusy, withCondition}
 use Rattle.device.specs.Making.{madeOf}
 use Rattle.register_write.specs.Answers as A
 use Rattle.register_write.specs.Registers.{taken, isId, setMode, setState, idWritten, enableWritten, widthWritten, heightWritten, configured, acceptedWritten, configDoneWritten, running, synced, cursorOnWritten, writableWritten, writtenBy, written}
@@ -45,9 +45,6 @@ use Rattle.replay.specs.Demand.{ringAtStart, isStart}
 
 abbrev pub lentRight : Device → Memories → Bool
 lentRight d m = lentGood d (length (m .ring)) (length (m .framebuffer)) (length (m .screen)) (length (m .cursor))
-
-abbrev pub modeFits : Device → Bool
-modeFits d = leb (widthOf d * heightOf d) (pixelsOf d)
 
 pub record Start (w : World) : Type 0 where
   pub is-made : made (w .device) ≡ true

@@ -7,7 +7,7 @@ use mathlib.Core.Option.{Option, none, some}
 use Prim.Native.Nat.{ℕ, _+_, _-_, _*_, _/_, _%_, _≤_}
 use native.Mathlib.Omega.{arith}
 use native.Mathlib.Nat.{add-zero}
-use lib.Dec.{eqb, leb}
+use lib.Dec.{eqb}
 use lib.ListN.{length, drop, length-drop, length-append}
 use borrow.Author.Tests.{eqb-true, eqb-false, eq-eqb, le-leb, lt-ltb}
 use Rattle.geometry.proofs.Tests.{both}
@@ -33,7 +33,7 @@ use Rattle.run.specs.Run.{Scene, scene, table, stamped, left, runWords, fitting
 use Rattle.device.specs.declared.Device.{Device}
 use Rattle.device.specs.declared.Condition.{Condition}
 use Rattle.device.specs.declared.Condition.the-variants.{Running, Faulted}
-use Rattle.device.specs.Device.{memoryOf, pixelsOf, widthOf, heightOf, enabledOf, configuredOf, conditionOf, sizesGood, modeGood, conditionGood, made}
+use Rattle.device.specs.Device.{memoryOf, pixelsOf, widthOf, heightOf, enabledOf, configuredOf, conditionOf, sizesGood, modeGood, conditionGood, modeFits, made}
 use Rattle.device_run.specs.Run.{RunOutcome, lentGood, conditionAfter, ran, runBy, runOf}
 use Rattle.device.proofs.Laws.{well-formed}
 use Rattle.replay.specs.Calls.{World, withRing, Outcome, append, run, perform}
@@ -57,7 +57,7 @@ run-passes : (d : Device) (ring framebuffer screen cursor : List ℕ) (b : ℕ)
     → lentGood d (length ring) (length framebuffer) (length screen) (length cursor) ≡ true
     → configuredOf d ≡ true
     → enabledOf d ≡ true
-    → leb (widthOf d * heightOf d) (pixelsOf d) ≡ true
+    → modeFits d ≡ true
     → runOf d ring framebuffer screen cursor b ≡ runBy d ring framebuffer screen cursor b (conditionOf d)
 unfolding runOf
 run-passes d ring framebuffer screen cursor b m l c e f = rw (m, l, c, e, f)
@@ -95,7 +95,7 @@ pub record Started (w₀ : World) : Type 0 where
   pub mode : modeGood (widthOf (w₀ .device)) (heightOf (w₀ .device)) ≡ true
   pub config : configuredOf (w₀ .device) ≡ true
   pub enable : enabledOf (w₀ .device) ≡ true
-  pub fits-screen : leb (widthOf (w₀ .device) * heightOf (w₀ .device)) (pixelsOf (w₀ .device)) ≡ true
+  pub fits-screen : modeFits (w₀ .device) ≡ true
   pub framebuffer : length (w₀ .lent .framebuffer) ≡ pixelsOf (w₀ .device)
   pub screen : length (w₀ .lent .screen) ≡ pixelsOf (w₀ .device)
   pub wide : 1 ≤ widthOf (w₀ .device)
@@ -346,7 +346,7 @@ record Tests (w₀ : World) : Type 0 where
   lent : lentGood (w₀ .device) (length (w₀ .lent .ring)) (length (w₀ .lent .framebuffer)) (length (w₀ .lent .screen)) (length (w₀ .lent .cursor)) ≡ true
   config : configuredOf (w₀ .device) ≡ true
   enable : enabledOf (w₀ .device) ≡ true
-  fits-screen : leb (widthOf (w₀ .device) * heightOf (w₀ .device)) (pixelsOf (w₀ .device)) ≡ true
+  fits-screen : modeFits (w₀ .device) ≡ true
   at-start : ringAtStart (w₀ .lent .ring) (conditionOf (w₀ .device)) ≡ true
 
 tests : (w₀ : World) → isStart w₀ ≡ true → Tests w₀
@@ -358,7 +358,7 @@ tests w₀ e =
     let b = both (lentGood d (length (m .ring)) (length (m .framebuffer)) (length (m .screen)) (length (m .cursor))) _ (a .1) in
     let c = both (configuredOf d) _ (b .1) in
     let f = both (enabledOf d) _ (c .1) in
-    let h = both (leb (widthOf d * heightOf d) (pixelsOf d)) _ (f .1) in
+    let h = both (modeFits d) _ (f .1) in
     record { there = a .0; lent = b .0; config = c .0; enable = f .0; fits-screen = h .0; at-start = h .1 }
 
 lent-lengths : (d : Device) (ring framebuffer screen cursor : ℕ) → lentGood d ring framebuffer screen cursor ≡ true

@@ -4,7 +4,7 @@ use mathlib.Core.Path.{_≡_}
 use mathlib.Core.Bool.{Bool, false, _&&_}
 use mathlib.Core.List.{List, [], _∷_, map}
 use mathlib.Core.Option.{Option, none, some}
-use lib.Dec.{eqb, leb}
+use lib.Dec.{eqb}
 use lib.ListN.{length}
 use Rattle.order.specs.declared.Cause.{Cause}
 use Rattle.order.specs.Straight.{Turn, Line}
@@ -18,7 +18,7 @@ use Rattle.effect.specs.Effects.{Machine}
 use Rattle.run.specs.Run.{Scene, scene, table}
 use Rattle.device.specs.declared.Condition.{Condition}
 use Rattle.device.specs.declared.Condition.the-variants.{Idle, Running, Faulted}
-use Rattle.device.specs.Device.{pixelsOf, widthOf, heightOf, enabledOf, configuredOf, conditionOf, made}
+use Rattle.device.specs.Device.{widthOf, heightOf, enabledOf, configuredOf, conditionOf, modeFits, made}
 use Rattle.device_run.specs.Run.{lentGood, machineOf}
 use Rattle.replay.specs.Calls.{World, Call, append, run, Outcome, History}
 
@@ -38,7 +38,7 @@ isStart w =
     && (lentGood (w .device) (length (w .lent .ring)) (length (w .lent .framebuffer)) (length (w .lent .screen)) (length (w .lent .cursor))
     && (configuredOf (w .device)
     && (enabledOf (w .device)
-    && (leb (widthOf (w .device) * heightOf (w .device)) (pixelsOf (w .device)) && ringAtStart (w .lent .ring) (conditionOf (w .device))))))
+    && (modeFits (w .device) && ringAtStart (w .lent .ring) (conditionOf (w .device))))))
 
 -- "uses its framebuffer, mode, MIN and MAX": document 01's table and turn, as of the start.
 abbrev pub sceneOf : World → Scene

@@ -1,13 +1,19 @@
 -- `device_run::is_ready` meets its contract.
 -- Assumes nothing.
+use mathlib.Core.Path.{_≡_, sym, _∙_}
+use mathlib.Core.Bool.{true}
 use borrow.Author.Needs.{needs}
-use mathlib.Core.Path.{sym, _∙_}
-use native.Mathlib.Omega.{arith}
 use borrow.Author.Tests.{not-true, not-false}
-use Rattle.device_run.specs.Run.{ready}
-use Rattle.device.proofs.Laws.{well-formed, mode-fits}
+use Rattle.device.specs.Device.{made}
+use Rattle.device_run.specs.Run.{lentGood, ready}
 use Rattle.device_run.proofs.is_ready.Statement.{statement}
 use Rattle.device_run.proofs.is_ready.Tie as tie
+
+is-made : (c : tie.Else1) → made (c .before .before .args .d) ≡ true
+is-made c = sym (c .before .is-made .ensures) ∙ not-false _ (c .if1 .left)
+
+is-lent : (c : tie.Else2) → (let a = c .before .before .before .before .args in lentGood (a .d) (a .ring) (a .framebuffer) (a .screen) (a .cursor) ≡ true)
+is-lent c = sym (c .before .lent-good .ensures) ∙ not-false _ (c .if2 .left)
 
 pub is-ready-spec : {M : Type 1} → statement M
 unfolding ready
@@ -17,8 +23,10 @@ is-ready-spec =
     (λ c κs. search needs)
     (λ c. rw (sym (c .before .is-made .ensures) ∙ not-true _ (c .if1 .taken)))
     (λ c κs. search needs)
-    (λ c. rw (sym (c .before .before .before .is-made .ensures) ∙ not-false _ (c .before .before .if1 .left), sym (c .before .lent-good .ensures) ∙ not-true _ (c .if2 .taken)))
-    (λ c. omega (arith, mode-fits _ (well-formed _ (sym (c .before .before .before .before .before .before .before .before .is-made .ensures) ∙ not-false _ (c .before .before .before .before .before .before .before .if1 .left)))))
-    (λ c. rw (sym (c .before .before .before .before .before .before .before .before .before .is-made .ensures) ∙ not-false _ (c .before .before .before .before .before .before .before .before .if1 .left), sym (c .before .before .before .before .before .before .before .lent-good .ensures) ∙ not-false _ (c .before .before .before .before .before .before .if2 .left), c .before .before .before .before .if3 .taken, c .before .before .before .if4 .taken))
-    (λ c. rw (sym (c .before .before .before .before .before .before .is-made .ensures) ∙ not-false _ (c .before .before .before .before .before .if1 .left), sym (c .before .before .before .before .lent-good .ensures) ∙ not-false _ (c .before .before .before .if2 .left), c .before .if3 .taken, c .if4 .left))
-    (λ c. rw (sym (c .before .before .before .before .before .is-made .ensures) ∙ not-false _ (c .before .before .before .before .if1 .left), sym (c .before .before .before .lent-good .ensures) ∙ not-false _ (c .before .before .if2 .left), c .if3 .left)))
+    (λ c. rw (is-made (c .before .before), sym (c .before .lent-good .ensures) ∙ not-true _ (c .if2 .taken)))
+    (λ c κs. search needs)
+    (λ c.
+    let lent = c .before .before .before .before in
+    rw (is-made (lent .before .before), is-lent lent, c .before .before .if3 .taken, c .before .if4 .taken) (c .mode-fits .ensures))
+    (λ c. let lent = c .before .before .before in rw (is-made (lent .before .before), is-lent lent, c .before .if3 .taken, c .if4 .left))
+    (λ c. let lent = c .before .before in rw (is-made (lent .before .before), is-lent lent, c .if3 .left)))
