@@ -10,7 +10,7 @@ use Rattle.picture.specs.Picture.{composed}
 use Rattle.cursor.specs.declared.Defined.{Defined}
 use Rattle.cursor.specs.declared.Defined.the-variants.{Undefined, Cursor}
 use Rattle.device.specs.declared.Device.{Device}
-use Rattle.device.specs.Device.{pixelsOf, widthOf, heightOf, modeFits, made}
+use Rattle.device.specs.Device.{pixelsOf, widthOf, heightOf, definedOf, modeFits, made}
 use Rattle.adapter.specs.declared.PictureAnswer.{PictureAnswer}
 use Rattle.adapter.specs.declared.PictureAnswer.the-variants.{Taken as Shown, WrongLength as NotLent, TooLarge}
 
@@ -44,7 +44,7 @@ pictureOf d screen image output =
     cond (made d)
     (cond (lengthsGood (pixelsOf d) (length screen) (length image) (length output))
     (cond (modeFits d)
-    (record { answer = 0; output = composed (widthOf d) (heightOf d) (cursorOver d (d .defined)) screen image output })
+    (record { answer = 0; output = composed (widthOf d) (heightOf d) (cursorOver d (definedOf d)) screen image output })
     (record { answer = 24; output = output }))
     (record { answer = 20; output = output }))
     (record { answer = 24; output = output })

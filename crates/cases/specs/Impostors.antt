@@ -99,8 +99,7 @@ device fence stop = record {
   sizes = record { memory = 10256; pixels = 4 };
   registers = setState (setMode freshRegisters 4 1) 0x90000000 true true;
   plane = record { shown = false; id = 0; x = 0; y = 0 };
-  defined = Undefined;
-  fence = fence;
+  marks = record { fence = fence; defined = Undefined };
   busy = false;
   condition = Running (record { min = 4; max = 2564; stop = stop });
 }
@@ -125,8 +124,7 @@ shows = record {
   sizes = record { memory = 10256; pixels = 1 };
   registers = setMode freshRegisters 1 1;
   plane = record { shown = true; id = 1; x = 0; y = 0 };
-  defined = Cursor (record { id = 1; hotx = 0; hoty = 0; w = 1; h = 1 });
-  fence = 0;
+  marks = record { fence = 0; defined = Cursor (record { id = 1; hotx = 0; hoty = 0; w = 1; h = 1 }) };
   busy = false;
   condition = Idle;
 }

@@ -10,7 +10,7 @@ use borrow.Author.Tests.{eq-eqb, le-leb}
 use Rattle.geometry.proofs.Tests.{by-bool, both}
 use Rattle.device.specs.declared.Device.{Device}
 use Rattle.device.specs.Making.{madeOf}
-use Rattle.device.specs.Device.{memoryOf, pixelsOf, widthOf, heightOf, sizesGood, fresh, modeGood, conditionGood, definedGood, made}
+use Rattle.device.specs.Device.{memoryOf, pixelsOf, widthOf, heightOf, definedOf, sizesGood, fresh, modeGood, conditionGood, definedGood, made}
 use Rattle.device.proofs.Laws.{WellFormed}
 
 -- the converse of `well-formed`
@@ -36,7 +36,7 @@ pub parts : (d : Device) → made d ≡ true
     → (sizesGood (memoryOf d) (pixelsOf d) ≡ true)
     × (modeGood (widthOf d) (heightOf d) ≡ true)
     × (conditionGood (memoryOf d) (d .registers .config) (d .condition) ≡ true)
-    × (definedGood (d .defined) ≡ true)
+    × (definedGood (definedOf d) ≡ true)
 unfolding made
 parts d m = let x = both _ _ m in let y = both _ _ (x .1) in let z = both _ _ (y .1) in (x .0, y .0, z .0, z .1)
 

@@ -8,7 +8,7 @@ use native.Mathlib.Omega.{arith}
 use borrow.Author.Tests.{eqb-true, leb-true}
 use Rattle.geometry.proofs.Tests.{both}
 use Rattle.device.specs.declared.Device.{Device}
-use Rattle.device.specs.Device.{memoryOf, pixelsOf, widthOf, heightOf, sizesGood, modeGood, conditionGood, definedGood, made}
+use Rattle.device.specs.Device.{memoryOf, pixelsOf, widthOf, heightOf, definedOf, sizesGood, modeGood, conditionGood, definedGood, made}
 
 pub record WellFormed (d : Device) : Type 0 where
   pub memory-words : memoryOf d % 4 ≡ 0
@@ -21,7 +21,7 @@ pub record WellFormed (d : Device) : Type 0 where
   pub height-low : 1 ≤ heightOf d
   pub height-high : heightOf d ≤ 1600
   pub condition : conditionGood (memoryOf d) (d .registers .config) (d .condition) ≡ true
-  pub defined : definedGood (d .defined) ≡ true
+  pub defined : definedGood (definedOf d) ≡ true
 
 pub well-formed : (d : Device) → made d ≡ true → WellFormed d
 unfolding made sizesGood modeGood

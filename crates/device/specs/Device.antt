@@ -34,7 +34,7 @@ abbrev pub configuredOf : Device → Bool
 configuredOf d = d .registers .config
 
 abbrev pub definedOf : Device → Defined
-definedOf d = d .defined
+definedOf d = d .marks .defined
 
 abbrev pub conditionOf : Device → Condition
 conditionOf d = d .condition
@@ -66,8 +66,7 @@ fresh memory pixels = record {
   sizes = record { memory = memory; pixels = pixels };
   registers = freshRegisters;
   plane = record { shown = false; id = 0; x = 0; y = 0 };
-  defined = Undefined;
-  fence = 0;
+  marks = record { fence = 0; defined = Undefined };
   busy = false;
   condition = Idle;
 }
@@ -97,7 +96,7 @@ definedGood (Cursor s) = shapeGood s
 unfoldable pub made : Device → Bool
 made d =
     sizesGood (memoryOf d) (pixelsOf d)
-    && (modeGood (widthOf d) (heightOf d) && (conditionGood (memoryOf d) (d .registers .config) (d .condition) && definedGood (d .defined)))
+    && (modeGood (widthOf d) (heightOf d) && (conditionGood (memoryOf d) (d .registers .config) (d .condition) && definedGood (definedOf d)))
 
 -- ---- a device with one part changed
 
@@ -106,8 +105,7 @@ withRegisters d g = record {
   sizes = d .sizes;
   registers = g;
   plane = d .plane;
-  defined = d .defined;
-  fence = d .fence;
+  marks = d .marks;
   busy = d .busy;
   condition = d .condition;
 }
@@ -117,8 +115,7 @@ withPlane d p = record {
   sizes = d .sizes;
   registers = d .registers;
   plane = p;
-  defined = d .defined;
-  fence = d .fence;
+  marks = d .marks;
   busy = d .busy;
   condition = d .condition;
 }
@@ -128,8 +125,7 @@ withBusy d b = record {
   sizes = d .sizes;
   registers = d .registers;
   plane = d .plane;
-  defined = d .defined;
-  fence = d .fence;
+  marks = d .marks;
   busy = b;
   condition = d .condition;
 }
@@ -139,8 +135,7 @@ withCondition d c = record {
   sizes = d .sizes;
   registers = d .registers;
   plane = d .plane;
-  defined = d .defined;
-  fence = d .fence;
+  marks = d .marks;
   busy = d .busy;
   condition = c;
 }

@@ -1,5 +1,6 @@
 // The device: its parts, the test of a well-formed one, making.
 use cursor::Defined;
+use effect::Marks;
 use order::Cause;
 use ring::Ring;
 ghost use mathlib.Core.Path.{_≡_};
@@ -44,8 +45,7 @@ pub struct Device {
     pub sizes: Sizes,
     pub registers: Registers,
     pub plane: Plane,
-    pub defined: Defined,
-    pub fence: u32,
+    pub marks: Marks,
     pub busy: bool,
     pub condition: Condition,
 }
@@ -142,7 +142,8 @@ pub fn is_made(d: Device) -> bool
     if !good_condition {
         return false;
     }
-    let defined = d.defined;
+    let marks = d.marks;
+    let defined = marks.defined;
     defined_good(defined)
 }
 
@@ -175,12 +176,15 @@ pub fn make(memory: u32, pixels: u32) -> Making
         x: 0,
         y: 0,
     };
+    let marks = Marks {
+        fence: 0,
+        defined: Defined::Undefined,
+    };
     Making::Made(Device {
         sizes: Sizes { memory, pixels },
         registers,
         plane,
-        defined: Defined::Undefined,
-        fence: 0,
+        marks,
         busy: false,
         condition: Condition::Idle,
     })

@@ -80,15 +80,14 @@ settled d o = record {
   sizes = d .sizes;
   registers = d .registers;
   plane = d .plane;
-  defined = o .machine .marks .defined;
-  fence = o .machine .marks .fence;
+  marks = o .machine .marks;
   busy = busyAfter (o .answer) (d .busy);
   condition = conditionAfter (o .answer) (o .place);
 }
 
 -- The machine of straight execution that a device and the lent memories hold.
 abbrev pub machineOf : Device → List ℕ → List ℕ → Machine
-machineOf d screen cursor = machine (record { fence = d .fence; defined = d .defined }) screen cursor
+machineOf d screen cursor = machine (d .marks) screen cursor
 
 abbrev pub ran : Device → Outcome → RunOutcome
 ran d o = record {

@@ -3,7 +3,6 @@ use device::Condition;
 use device::Device;
 use device::is_made;
 use device::mode_fits;
-use effect::Marks;
 use order::End;
 use ring::Ring;
 use run::Answer;
@@ -123,15 +122,13 @@ fn settle(d: Device, result: run::Ran) -> Ran
 {
     let answer = result.answer;
     let marks = result.marks;
-    let defined = marks.defined;
     let condition = condition_after(answer, result.ring);
     let busy = busy_after(answer, d.busy);
     Ran {
         answer: answer_of(answer),
         count: result.count,
         device: Device {
-            defined,
-            fence: marks.fence,
+            marks,
             busy,
             condition,
             ..d
@@ -152,11 +149,7 @@ fn run_ring(
     ensures { λ r. ⌜ ranOf r (now (ring .exit)) (now (screen .exit)) (now (cursor .exit)) ≡ runBy d (now (ring .entry)) (now (framebuffer .entry)) (now (screen .entry)) (now (cursor .entry)) budget (Running at) ⌝ }
 {
     let g = d.registers;
-    let defined = d.defined;
-    let marks = Marks {
-        fence: d.fence,
-        defined,
-    };
+    let marks = d.marks;
     let result = run::run(
         at,
         marks,

@@ -41,7 +41,7 @@ condition-back (Faulted BadNext) = refl
 device-back : (d : Device) → deviceFrom (wordsOf d) ≡ d
 unfolding deviceFrom wordsOf
 device-back d =
-    rw (bit-back (d .registers .enable), bit-back (d .registers .config), bit-back (d .plane .shown), bit-back (d .busy), defined-back (d .defined), condition-back (d .condition))
+    rw (bit-back (d .registers .enable), bit-back (d .registers .config), bit-back (d .plane .shown), bit-back (d .busy), defined-back (d .marks .defined), condition-back (d .condition))
 
 same-itself : (l : List ℕ) → same l l ≡ true
 same-itself [] = refl

@@ -58,7 +58,7 @@ settingWords d rest = d .sizes .memory ∷ d .sizes .pixels ∷ registerWords (d
 unfoldable pub wordsOf : Device → List ℕ
 wordsOf d =
     settingWords d
-    (definedWords (definedParts (d .defined)) (d .fence ∷ bit (d .busy) ∷ conditionWords (conditionParts (d .condition)) (replicate 36 0)))
+    (definedWords (definedParts (d .marks .defined)) (d .marks .fence ∷ bit (d .busy) ∷ conditionWords (conditionParts (d .condition)) (replicate 36 0)))
 
 -- ---- from words to a device
 
@@ -94,8 +94,7 @@ deviceFrom w = record {
   sizes = record { memory = getD w 0 0; pixels = getD w 1 0 };
   registers = registersFrom w;
   plane = record { shown = eqb (getD w 12 0) 1; id = getD w 13 0; x = getD w 14 0; y = getD w 15 0 };
-  defined = definedFrom (getD w 16 0) (shapeFrom w);
-  fence = getD w 22 0;
+  marks = record { fence = getD w 22 0; defined = definedFrom (getD w 16 0) (shapeFrom w) };
   busy = eqb (getD w 23 0) 1;
   condition = conditionFrom (getD w 24 0) (record { min = getD w 25 0; max = getD w 26 0; stop = getD w 27 0 });
 }

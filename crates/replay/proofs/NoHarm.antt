@@ -24,7 +24,7 @@ use Rattle.picture.specs.declared.Over.{Over}
 use Rattle.picture.specs.Picture.{composed}
 use Rattle.picture.proofs.Laws.{length-composed, beyond-stays}
 use Rattle.device.specs.declared.Device.{Device}
-use Rattle.device.specs.Device.{pixelsOf, widthOf, heightOf, sizesGood, modeFits, made}
+use Rattle.device.specs.Device.{pixelsOf, widthOf, heightOf, definedOf, sizesGood, modeFits, made}
 use Rattle.device.specs.Making.{madeOf}
 use Rattle.register_write.specs.Answers as A
 use Rattle.register_read.specs.Registers.{readBy, readOf}
@@ -120,21 +120,22 @@ picture-answers w =
 pub all-same : {changes : ℕ → Type 0} (l : List ℕ) → SameBut changes l l
 all-same l = record { same-length = refl; elsewhere = λ i h. refl }
 
-left-marks : (d : Device) {o : A.Outcome} → Left d o → (o .device .defined ≡ d .defined) × (o .device .fence ≡ d .fence)
-left-marks d (same a) = (refl, refl)
-left-marks d (changed g p busy mode config) = (refl, refl)
-left-marks d forgotten = (refl, refl)
-left-marks d (remembered g good) = (refl, refl)
+left-marks : (d : Device) {o : A.Outcome} → Left d o → o .device .marks ≡ d .marks
+left-marks d (same a) = refl
+left-marks d (changed g p busy mode config) = refl
+left-marks d forgotten = refl
+left-marks d (remembered g good) = refl
 
-marks-kept : (d : Device) (ring : List ℕ) (index value : ℕ) → (written d ring index value .device .defined ≡ d .defined) × (written d ring index value .device .fence ≡ d .fence)
+marks-kept : (d : Device) (ring : List ℕ) (index value : ℕ) → written d ring index value .device .marks ≡ d .marks
 marks-kept d ring index value =
-    by-bool (made d) (λ m. left-marks d (left d m ring index value)) (λ f. rw (unmade-write d ring index value f) (refl, refl))
+    by-bool (made d) (λ m. left-marks d (left d m ring index value)) (λ f. rw (unmade-write d ring index value f) refl)
 
 write-changes : (index value : ℕ) (w : World) → WriteChanges w (perform (write index value) w .world)
 unfolding perform
 write-changes index value w =
-    let k = marks-kept (w .device) (w .lent .ring) index value in
-    record { sizes = sizes-kept (w .device) (w .lent .ring) index value; defined = k .0; fence = k .1; lent = refl }
+    let d = w .device in
+    let ring = w .lent .ring in
+    record { sizes = sizes-kept d ring index value; marks = marks-kept d ring index value; lent = refl }
 
 -- not below is at least
 not-below : (i n : ℕ) → (i < n → ⊥) → n ≤ i
@@ -222,7 +223,7 @@ module _ (w : World) where
   output-changes =
       by-bool (made d)
       (λ y. by-bool (lengthsGood (pixelsOf d) (length (m .screen)) (length (m .cursor)) (length (m .output)))
-      (λ l. by-bool (modeFits d) (λ t. rw (y, l, t) (composed-changes (cursorOver d (d .defined)) y)) (λ f. rw (y, l, f) (all-same (m .output))))
+      (λ l. by-bool (modeFits d) (λ t. rw (y, l, t) (composed-changes (cursorOver d (definedOf d)) y)) (λ f. rw (y, l, f) (all-same (m .output))))
       (λ l. rw (y, l) (all-same (m .output))))
       (λ f. rw f (all-same (m .output)))
 

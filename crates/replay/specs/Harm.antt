@@ -42,11 +42,10 @@ pub record SameBut (changes : ℕ → Type 0) (before after : List ℕ) : Type 0
 abbrev pub InMode : World → ℕ → Type 0
 InMode w i = i < widthOf (w .device) * heightOf (w .device)
 
--- A register write: of the device neither sizes nor defined cursor nor fence; no lent memory.
+-- A register write: of the device neither sizes nor marks, which are the fence and the defined cursor; no lent memory.
 pub record WriteChanges (w z : World) : Type 0 where
   pub sizes : z .device .sizes ≡ w .device .sizes
-  pub defined : z .device .defined ≡ w .device .defined
-  pub fence : z .device .fence ≡ w .device .fence
+  pub marks : z .device .marks ≡ w .device .marks
   pub lent : z .lent ≡ w .lent
 
 -- A run: of the device the defined cursor, the fence, BUSY, and the remembered STOP or the fault; of the screen the mode's pixels; the cursor image.

@@ -12,4 +12,4 @@ write-height-spec =
     (tie.spec
     (λ c. rw (lt-leb 1 _ (c .if1 .taken)))
     (λ c. rw (le-leb 1 _ (c .before .if1 .left), lt-leb _ 1600 (c .if2 .taken)))
-    (λ c. rw (le-leb 1 _ (c .before .before .before .before .if1 .left), le-leb _ 1600 (c .before .before .before .if2 .left))))
+    (λ c. rw (le-leb 1 _ (c .before .before .before .before .before .if1 .left), le-leb _ 1600 (c .before .before .before .before .if2 .left))))
