@@ -62,7 +62,7 @@ wordsOf d =
 
 -- ---- from words to a device
 
--- A bit, a tag or a word that no device has is taken for another; `heldIn` sees that by the words of the device then.
+-- A bit, a tag or a word that no device has is taken for another; `spelledIn` sees that by the words of the device then.
 unfoldable pub definedFrom : ℕ → Shape → Defined
 definedFrom tag s = cond (eqb tag 1) (Cursor s) Undefined
 
@@ -107,12 +107,18 @@ same [] (y ∷ b) = false
 same (x ∷ a) [] = false
 same (x ∷ a) (y ∷ b) = eqb x y && same a b
 
+-- The words spell a device: they are its own 64 words. It may be one that no call can have made.
+unfoldable pub spelledIn : List ℕ → Held
+spelledIn w = cond (eqb (length w) 64) (cond (same (wordsOf (deviceFrom w)) w) (Holds (deviceFrom w)) Nothing) Nothing
+
+-- Of devices the well-formed.
+abbrev pub wellFormed : Held → Held
+wellFormed (Holds d) = cond (made d) (Holds d) Nothing
+wellFormed Nothing = Nothing
+
 -- The one test of lent words: they are the words of a device, and a well-formed one. Any others hold none.
 unfoldable pub heldIn : List ℕ → Held
-heldIn w =
-    cond (eqb (length w) 64)
-    (cond (made (deviceFrom w)) (cond (same (wordsOf (deviceFrom w)) w) (Holds (deviceFrom w)) Nothing) Nothing)
-    Nothing
+heldIn w = wellFormed (spelledIn w)
 
 -- A device written into 64 lent words; any other length is left as it is.
 unfoldable pub putIn : List ℕ → Device → List ℕ

@@ -14,7 +14,7 @@ ghost use mathlib.Core.Bool.{cond};
 ghost use lib.Dec.{eqb};
 ghost use lib.ListN.{length, replicate};
 ghost use Rattle.register_read.specs.Registers.{bit};
-ghost use Rattle.device_words.specs.Words.{definedParts, conditionParts, settingWords, wordsOf, definedFrom, conditionFrom, deviceFrom, same, heldIn, putIn};
+ghost use Rattle.device_words.specs.Words.{definedParts, conditionParts, settingWords, wordsOf, definedFrom, conditionFrom, deviceFrom, same, spelledIn, putIn};
 
 // The device in lent words, or none.
 pub enum Held {
@@ -251,19 +251,15 @@ fn are_same(a: &[u32], w: &[u32]) -> bool
     n == 0
 }
 
-// The device in the lent words.
-// Rules out: a device in 63 words; a device where a spare word is not 0; a mode of 2,561 pixels to a row taken over.
-pub fn held_in(w: &[u32]) -> Held
-    ensures { λ r. ⌜ r ≡ heldIn (now (w .entry)) ⌝ }
+// The device that the lent words spell. Whether it is well-formed its callers test.
+// Rules out: a device in 63 words; a device where a spare word is not 0.
+pub fn spelled_in(w: &[u32]) -> Held
+    ensures { λ r. ⌜ r ≡ spelledIn (now (w .entry)) ⌝ }
 {
     if w.len() != 64 {
         return Held::Nothing;
     }
     let d = device_from(w);
-    let made = adapter::is_made(d);
-    if !made {
-        return Held::Nothing;
-    }
     let words = words_of(d);
     let known = are_same(&words, w);
     if !known {
