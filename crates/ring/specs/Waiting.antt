@@ -31,7 +31,8 @@ waiting ring lo hi stop next = words ring lo hi stop (between lo hi stop next)
 abbrev pub carried : ℕ → ℕ → ℕ
 carried lo hi = hi - lo - 1
 
--- A remembered ring lies in a ring memory of so many words as acceptance asks: "MIN ≥ 16; MAX ≤ M; MAX − MIN ≥ 10,240; .. STOP lie from MIN to below MAX", all in words.
+-- A remembered ring lies in a ring memory of so many words as acceptance asks: "MIN ≥ 16; MAX ≤ M; MAX − MIN ≥ 10,240; .. STOP lie
+-- from MIN to below MAX", all in words.
 unfoldable pub placed : Ring → ℕ → Bool
 placed g words =
     leb 4 (g .min) && (leb (g .max) words && (leb (g .min + 2560) (g .max) && (leb (g .min) (g .stop) && ltb (g .stop) (g .max))))
