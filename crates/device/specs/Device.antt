@@ -75,9 +75,16 @@ fresh memory pixels = record {
 
 -- ---- well-formed devices: a test that `make` meets and every call keeps
 
+-- "4 and 5 maximum width and height (2,560; 1,600)"
+abbrev pub maxWidth : ℕ
+maxWidth = 2560
+
+abbrev pub maxHeight : ℕ
+maxHeight = 1600
+
 -- "2 WIDTH (1 to 2,560), 3 HEIGHT (1 to 1,600)"
 unfoldable pub modeGood : ℕ → ℕ → Bool
-modeGood width height = leb 1 width && (leb width 2560 && (leb 1 height && leb height 1600))
+modeGood width height = leb 1 width && (leb width maxWidth && (leb 1 height && leb height maxHeight))
 
 -- The remembered ring lies in the ring memory as acceptance asks; all in words.
 unfoldable pub ringGood : ℕ → Ring → Bool

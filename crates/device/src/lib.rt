@@ -7,6 +7,11 @@ ghost use mathlib.Core.Path.{_≡_};
 ghost use Rattle.device.specs.Device.{sizesGood, modeGood, ringGood, conditionGood, definedGood, made, conditionOf, cursorDefined};
 ghost use Rattle.device.specs.Making.{creation, madeOf};
 
+// The largest mode.
+pub const MAX_WIDTH: u32 = 2560;
+
+pub const MAX_HEIGHT: u32 = 1600;
+
 // M, the bytes of the ring memory, and P, the pixels of framebuffer and screen.
 pub struct Sizes {
     pub memory: u32,
@@ -82,13 +87,13 @@ fn mode_good(width: u32, height: u32) -> bool
     if width < 1 {
         return false;
     }
-    if 2560 < width {
+    if MAX_WIDTH < width {
         return false;
     }
     if height < 1 {
         return false;
     }
-    height <= 1600
+    height <= MAX_HEIGHT
 }
 
 fn ring_good(memory: u32, ring: Ring) -> bool
