@@ -20,6 +20,7 @@ use Rattle.register.specs.declared.Register.the-variants.{Writes, Reads, Absent
 use Rattle.register.specs.declared.Writable.{Writable}
 use Rattle.register.specs.declared.Writable.the-variants.{Id, Enable, Width, Height, ConfigDone, Sync, GuestId, CursorId, CursorX, CursorY, CursorOn}
 use Rattle.register.specs.Numbers.{Numbered, numbers, among, registerOf}
+use Rattle.register.proofs.ByNumber.{numberOf}
 use Rattle.device.specs.declared.Device.{Device}
 use Rattle.device.specs.declared.Registers.{Registers}
 use Rattle.device.specs.declared.Plane.{Plane}
@@ -33,7 +34,6 @@ use Rattle.device_run.specs.Run.{RunOutcome, lentGood}
 use Rattle.device.proofs.Laws.{well-formed}
 use Rattle.device.proofs.Kept.{fresh-made}
 use Rattle.register_write.proofs.Kept.{written-made}
-use Rattle.register_read.proofs.Readings.{numberOf}
 use Rattle.register_write.proofs.Refusals.{refused-changes-nothing, unmade-write, wrong-length, ring-refused, only}
 use Rattle.adapter.proofs.Refusals.{refused-picture}
 use Rattle.replay.proofs.KeptByRun.{refused-run, run-made}
