@@ -1,15 +1,15 @@
 -- What the statements of Demand2 rest on: tests and what they say, and how the turns of a run end.
 -- Assumes nothing.
 use mathlib.Core.Path.{_≡_, refl, sym, ap, _∙_}
-use mathlib.Core.Bool.{Bool, true, false, cond, false≢true, _&&_, _||_}
+use mathlib.Core.Bool.{Bool, true, false, cond, false≢true, _&&_}
 use mathlib.Core.List.{List}
-use mathlib.Core.Logic.{_↔_, _≢_, _⊎_, inl, inr, ⊎-elim}
+use mathlib.Core.Logic.{_↔_, _⊎_, inl, inr, ⊎-elim}
 use Prim.Native.Nat.{ℕ, zero, suc, _+_, _*_, _/_, _%_, _≤_, _<_, min}
 use native.Mathlib.Omega.{arith}
 use native.Mathlib.Nat.{zero-min, min-zero, suc-min-suc}
 use lib.Dec.{eqb, leb, eqb·zero-suc, eqb·suc-suc}
 use lib.ListN.{length}
-use borrow.Author.Tests.{eqb-true, eqb-false, leb-true, ltb-true, eq-eqb, ne-eqb, le-leb, lt-ltb}
+use borrow.Author.Tests.{eqb-true, leb-true, ltb-true, eq-eqb, ne-eqb, le-leb, lt-ltb}
 use Rattle.geometry.proofs.Tests.{by-bool, both}
 use Rattle.order.specs.declared.Cause.{Cause}
 use Rattle.order.specs.declared.Cause.the-variants.{NotOffered, BadOperand, TooLong, BadNext}
@@ -38,7 +38,7 @@ use Rattle.device.specs.Device.{memoryOf, pixelsOf, configuredOf, conditionOf, 
 use Rattle.adapter.specs.Picture.{lengthsGood}
 use Rattle.device_run.specs.Run.{lentGood, conditionAfter}
 use Rattle.device.proofs.Laws.{well-formed}
-use Rattle.register_write.proofs.Refusals.{inRange}
+use Rattle.register_write.specs.Registers.{inRange}
 use Rattle.demands.specs.Refusing.{Sizes, Ranged, Lent, NextUsable, PictureLent}
 
 pub clash : _≡_ {A = ℕ} 0 1 → ⊥
@@ -114,12 +114,6 @@ next-usable g next = (
       rw (eq-eqb _ _ w, le-leb (g .min) (next / 4) (omega arith), lt-ltb (next / 4) (g .max) (omega arith)),
 )
 
-zero-or-one : (v : ℕ) → (eqb v 0 || eqb v 1 ≡ true) ↔ (v ≤ 1)
-zero-or-one v = (
-  λ e. by-bool (eqb v 0) (λ z. omega (arith, eqb-true v 0 z)) (λ f. omega (arith, eqb-true v 1 (rw f at e))),
-  λ h. by-bool (eqb v 0) (λ z. rw z) (λ f. let n : v ≢ 0 = eqb-false v 0 f in rw (f, eq-eqb v 1 (omega arith))),
-)
-
 between : (low high v : ℕ) → (leb low v && leb v high ≡ true) ↔ ((low ≤ v) × (v ≤ high))
 between low high v = (
   λ e. let b = both (leb low v) (leb v high) e in (leb-true _ _ (b .0), leb-true _ _ (b .1)),
@@ -127,11 +121,12 @@ between low high v = (
 )
 
 pub ranged : (w : Writable) (v : ℕ) → (inRange w v ≡ true) ↔ Ranged w v
+unfolding inRange
 ranged Id v = (λ e. tt, λ x. refl)
-ranged Enable v = zero-or-one v
+ranged Enable v = (leb-true v 1, le-leb v 1)
 ranged Width v = between 1 2560 v
 ranged Height v = between 1 1600 v
-ranged ConfigDone v = zero-or-one v
+ranged ConfigDone v = (leb-true v 1, le-leb v 1)
 ranged Sync v = (λ e. tt, λ x. refl)
 ranged GuestId v = (λ e. tt, λ x. refl)
 ranged CursorId v = (λ e. tt, λ x. refl)

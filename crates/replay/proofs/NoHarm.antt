@@ -26,14 +26,13 @@ use Rattle.picture.proofs.Laws.{length-composed, beyond-stays}
 use Rattle.device.specs.declared.Device.{Device}
 use Rattle.device.specs.Device.{pixelsOf, widthOf, heightOf, sizesGood, made}
 use Rattle.device.specs.Making.{madeOf}
-use Rattle.register_write.specs.Answers as A
 use Rattle.register_read.specs.Registers.{readBy, readOf}
 use Rattle.register_write.specs.Registers.{written}
 use Rattle.adapter.specs.Picture.{cursorOver, lengthsGood, pictureOf}
 use Rattle.device_run.specs.Run.{RunOutcome, machineOf, refusedRun, ran, runOf}
 use Rattle.run.specs.Run.{scene}
 use Rattle.device.proofs.Laws.{well-formed}
-use Rattle.register_write.proofs.Kept.{Left, same, changed, forgotten, remembered, left, sizes-kept}
+use Rattle.register_write.proofs.Kept.{sizes-kept, defined-kept, fence-kept}
 use Rattle.register_write.proofs.Refusals.{Why, no-register, read-only, bad-value, wrong-length, ring-refused, is-taken, why, unmade-write}
 use Rattle.replay.proofs.KeptByRun.{Told, Refusal, lent-length, disabled, not-configured, fault-stands, too-large, Open, ranIn, by-run, left-sound, left-stays, open-sound, refused-run, run-count, beyond-rows}
 use Rattle.replay.specs.Calls.{Memories, World, Call, make, write, read, run, append, picture, offscreen, fence, passed, lend, Outcome, perform, performAll}
@@ -120,21 +119,14 @@ picture-answers w =
 pub all-same : {changes : ℕ → Type 0} (l : List ℕ) → SameBut changes l l
 all-same l = record { same-length = refl; elsewhere = λ i h. refl }
 
-left-marks : (d : Device) {o : A.Outcome} → Left d o → (o .device .defined ≡ d .defined) × (o .device .fence ≡ d .fence)
-left-marks d (same a) = (refl, refl)
-left-marks d (changed g p busy mode config) = (refl, refl)
-left-marks d forgotten = (refl, refl)
-left-marks d (remembered g good) = (refl, refl)
-
-marks-kept : (d : Device) (ring : List ℕ) (index value : ℕ) → (written d ring index value .device .defined ≡ d .defined) × (written d ring index value .device .fence ≡ d .fence)
-marks-kept d ring index value =
-    by-bool (made d) (λ m. left-marks d (left d m ring index value)) (λ f. rw (unmade-write d ring index value f) (refl, refl))
-
 write-changes : (index value : ℕ) (w : World) → WriteChanges w (perform (write index value) w .world)
 unfolding perform
-write-changes index value w =
-    let k = marks-kept (w .device) (w .lent .ring) index value in
-    record { sizes = sizes-kept (w .device) (w .lent .ring) index value; defined = k .0; fence = k .1; lent = refl }
+write-changes index value w = record {
+  sizes = sizes-kept (w .device) (w .lent .ring) index value;
+  defined = defined-kept (w .device) (w .lent .ring) index value;
+  fence = fence-kept (w .device) (w .lent .ring) index value;
+  lent = refl;
+}
 
 -- not below is at least
 not-below : (i n : ℕ) → (i < n → ⊥) → n ≤ i

@@ -1,39 +1,36 @@
 -- The start of demand 3: it is reached, from any sizes, mode and empty ring; which calls keep it; and document 01's own words for it give it.
 -- Assumes nothing.
 use mathlib.Core.Path.{_≡_, refl, sym, ap, _∙_}
-use mathlib.Core.Bool.{Bool, true, false, cond, _&&_}
+use mathlib.Core.Bool.{Bool, true, false, _&&_}
 use mathlib.Core.List.{List, [], _∷_, map}
 use mathlib.Core.Logic.{_⊎_, ⊎-elim}
 use Prim.Native.Nat.{ℕ, _*_, _/_, _≤_}
 use native.Mathlib.Omega.{arith}
 use lib.Dec.{eqb, leb}
 use lib.ListN.{length}
-use borrow.Author.Tests.{eqb-true, eqb-false, eq-eqb, le-leb}
+use borrow.Author.Tests.{eqb-true, eqb-false, eq-eqb, ne-eqb, le-leb}
 use Rattle.geometry.proofs.Tests.{by-bool, both}
-use Rattle.ring.specs.declared.Ring.{Ring}
 use Rattle.ring.specs.Acceptance.{minOf, maxOf, nextOf, stopOf, usable}
 use Rattle.ring.specs.Append.{canAppend, appendOf}
-use Rattle.ring.proofs.Laws.{accepted-when}
 use Rattle.ring.proofs.AppendLaws.{append-refused}
-use Rattle.register.specs.declared.Register.{Register}
-use Rattle.register.specs.declared.Register.the-variants.{Writes, Reads, Absent}
+use Rattle.register.specs.declared.Register.the-variants.{Writes}
 use Rattle.register.specs.declared.Writable.{Writable}
-use Rattle.register.specs.declared.Writable.the-variants.{Id, Enable, Width, Height, ConfigDone, Sync, GuestId, CursorId, CursorX, CursorY, CursorOn}
+use Rattle.register.specs.declared.Writable.the-variants.{Enable, Width, Height, ConfigDone}
 use Rattle.register.specs.Numbers.{Numbered, numbers, among, registerOf}
 use Rattle.register.proofs.ByNumber.{numberOf}
 use Rattle.device.specs.declared.Device.{Device}
-use Rattle.device.specs.declared.Registers.{Registers}
-use Rattle.device.specs.declared.Plane.{Plane}
+use Rattle.device.specs.declared.Sizes.{Sizes}
 use Rattle.device.specs.declared.Condition.{Condition}
 use Rattle.device.specs.declared.Condition.the-variants.{Idle, Running, Faulted}
-use Rattle.device.specs.Device.{memoryOf, pixelsOf, widthOf, heightOf, enabledOf, configuredOf, conditionOf, definedOf, sizesGood, fresh, conditionGood, made, withRegisters, withPlane, withBusy, withCondition}
+use Rattle.device.specs.Device.{memoryOf, pixelsOf, widthOf, heightOf, enabledOf, configuredOf, conditionOf, definedOf, maxWidth, maxHeight, sizesGood, fresh, conditionGood, made}
 use Rattle.device.specs.Making.{madeOf}
 use Rattle.register_write.specs.Answers as A
-use Rattle.register_write.specs.Registers.{taken, isId, setMode, setState, idWritten, enableWritten, widthWritten, heightWritten, configured, acceptedWritten, configDoneWritten, running, synced, cursorOnWritten, writableWritten, writtenBy, written}
+use Rattle.register_write.specs.Registers.{taken, inRange, effectOf, ringAsked, remembering, written}
 use Rattle.device_run.specs.Run.{RunOutcome, lentGood}
 use Rattle.device.proofs.Laws.{well-formed}
 use Rattle.device.proofs.Kept.{fresh-made}
-use Rattle.register_write.proofs.Kept.{written-made}
+use Rattle.register_write.proofs.Effects.{is, only-own, width-stored, height-stored, enable-sets}
+use Rattle.register_write.proofs.Kept.{remembered, effect-taken, ring-taken, written-made, part-kept, sizes-kept, defined-kept}
 use Rattle.register_write.proofs.Refusals.{refused-changes-nothing, unmade-write, wrong-length, ring-refused, only}
 use Rattle.adapter.proofs.Refusals.{refused-picture}
 use Rattle.replay.proofs.KeptByRun.{refused-run, run-made}
@@ -45,6 +42,9 @@ use Rattle.replay.specs.Demand.{ringAtStart, isStart}
 
 abbrev pub lentRight : Device → Memories → Bool
 lentRight d m = lentGood d (length (m .ring)) (length (m .framebuffer)) (length (m .screen)) (length (m .cursor))
+
+abbrev sizesOf : Device → Sizes
+sizesOf d = d .sizes
 
 abbrev pub modeFits : Device → Bool
 modeFits d = leb (widthOf d * heightOf d) (pixelsOf d)
@@ -93,38 +93,21 @@ make-taken : (w : World) (memory pixels : ℕ) → sizesGood memory pixels ≡ t
 unfolding perform madeOf
 make-taken w memory pixels e = rw e
 
-abbrev withWidth : Device → ℕ → Device
-withWidth d v = withRegisters d (setMode (d .registers) v (heightOf d))
-
-abbrev withHeight : Device → ℕ → Device
-withHeight d v = withRegisters d (setMode (d .registers) (widthOf d) v)
-
-abbrev withEnable : Device → Device
-withEnable d = withRegisters d (setState (d .registers) (d .registers .id) true (d .registers .config))
-
--- what acceptance remembers of ring words
-abbrev pub remembered : List ℕ → Ring
-remembered ring = record { min = minOf ring / 4; max = maxOf ring / 4; stop = stopOf ring / 4 }
-
 abbrev pub withRing : Device → List ℕ → Device
-withRing d ring = withCondition (configured d true) (Running (remembered ring))
+withRing d ring = remembering d (remembered ring)
 
 module _ (d : Device) (ring : List ℕ) (m : made d ≡ true) where
-  width-taken : (v : ℕ) → 1 ≤ v → v ≤ 2560 → written d ring 2 v ≡ taken (withWidth d v)
-  unfolding written writtenBy writableWritten registerOf numbers widthWritten
-  width-taken v a b = rw (m, le-leb 1 v a, le-leb v 2560 b)
+  width-taken : (v : ℕ) → 1 ≤ v → v ≤ maxWidth → written d ring 2 v ≡ taken (effectOf d v Width)
+  unfolding inRange ringAsked
+  width-taken v a b = effect-taken d ring m Width v (rw (le-leb 1 v a) (le-leb v maxWidth b)) refl
 
-  height-taken : (v : ℕ) → 1 ≤ v → v ≤ 1600 → written d ring 3 v ≡ taken (withHeight d v)
-  unfolding written writtenBy writableWritten registerOf numbers heightWritten
-  height-taken v a b = rw (m, le-leb 1 v a, le-leb v 1600 b)
+  height-taken : (v : ℕ) → 1 ≤ v → v ≤ maxHeight → written d ring 3 v ≡ taken (effectOf d v Height)
+  unfolding inRange ringAsked
+  height-taken v a b = effect-taken d ring m Height v (rw (le-leb 1 v a) (le-leb v maxHeight b)) refl
 
-  enable-taken : written d ring 1 1 ≡ taken (withEnable d)
-  unfolding written writtenBy writableWritten registerOf numbers enableWritten
-  enable-taken = rw m
-
-  ring-taken : length ring ≡ memoryOf d / 4 → usable ring ≡ true → written d ring 20 1 ≡ taken (withRing d ring)
-  unfolding written writtenBy writableWritten registerOf numbers configDoneWritten acceptedWritten
-  ring-taken n u = rw (m, eq-eqb _ _ n, accepted-when ring u)
+  enable-taken : written d ring 1 1 ≡ taken (effectOf d 1 Enable)
+  unfolding inRange ringAsked
+  enable-taken = effect-taken d ring m Enable 1 refl refl
 
 write-taken : (w : World) (index value : ℕ) (d : Device) → written (w .device) (w .lent .ring) index value ≡ taken d → perform (write index value) w ≡ took w d
 unfolding perform
@@ -172,7 +155,7 @@ answers h = map (λ (o : Outcome). o .answer) (h .outcomes)
 -- From any world whose lent memories have the right lengths for M and P, at ring words that are usable and empty: for every M and P that a device can be
 -- made for and every mode that a device can have and that fits P.
 pub start-reached : (w : World) (memory pixels width height : ℕ) → sizesGood memory pixels ≡ true
-    → 1 ≤ width → width ≤ 2560 → 1 ≤ height → height ≤ 1600 → width * height ≤ pixels
+    → 1 ≤ width → width ≤ maxWidth → 1 ≤ height → height ≤ maxHeight → width * height ≤ pixels
     → length (w .lent .ring) ≡ memory / 4 → length (w .lent .framebuffer) ≡ pixels → length (w .lent .screen) ≡ pixels → length (w .lent .cursor) ≡ 4096
     → usable (w .lent .ring) ≡ true → nextOf (w .lent .ring) ≡ stopOf (w .lent .ring)
     → (answers (performAll (starting memory pixels width height) w) ≡ 0 ∷ 0 ∷ 0 ∷ 0 ∷ 0 ∷ [])
@@ -183,9 +166,9 @@ start-reached w memory pixels width height good a b c d fits r f s k u n =
     let ring = w .lent .ring in
     let at : Device → World = λ e. record { device = e; lent = w .lent } in
     let d₁ = fresh memory pixels in
-    let d₂ = withWidth d₁ width in
-    let d₃ = withHeight d₂ height in
-    let d₄ = withEnable d₃ in
+    let d₂ = effectOf d₁ width Width in
+    let d₃ = effectOf d₂ height Height in
+    let d₄ = effectOf d₃ 1 Enable in
     let m₁ = fresh-made memory pixels good in
     let q₂ = width-taken d₁ ring m₁ width a b in
     let m₂ = made-after d₁ d₂ ring 2 width m₁ q₂ in
@@ -193,8 +176,15 @@ start-reached w memory pixels width height good a b c d fits r f s k u n =
     let m₃ = made-after d₂ d₃ ring 3 height m₂ q₃ in
     let q₄ = enable-taken d₃ ring m₃ in
     let m₄ = made-after d₃ d₄ ring 1 1 m₃ q₄ in
-    let l : lentRight d₄ (w .lent) ≡ true = rw (eq-eqb _ _ r, eq-eqb _ _ f, eq-eqb _ _ s) (eq-eqb _ _ k) in
-    let z = accepted-starts (at d₄) m₄ l refl (le-leb (width * height) pixels fits) u n in
+    let o₂ = only-own d₁ width Width in
+    let o₃ = only-own d₂ height Height in
+    let o₄ = only-own d₃ 1 Enable in
+    let sizes : d₄ .sizes ≡ d₁ .sizes = ap sizesOf o₄ ∙ ap sizesOf o₃ ∙ ap sizesOf o₂ in
+    let wide : widthOf d₄ ≡ width = ap widthOf o₄ ∙ ap widthOf o₃ ∙ width-stored d₁ width in
+    let high : heightOf d₄ ≡ height = ap heightOf o₄ ∙ height-stored d₂ height in
+    let l : lentRight d₄ (w .lent) ≡ true = rw (sizes, eq-eqb _ _ r, eq-eqb _ _ f, eq-eqb _ _ s) (eq-eqb _ _ k) in
+    let fit : modeFits d₄ ≡ true = rw (sizes, wide, high) (le-leb (width * height) pixels fits) in
+    let z = accepted-starts (at d₄) m₄ l (enable-sets d₃) fit u n in
     let first = make-taken w memory pixels good in
     let second = write-taken (at d₁) 2 width d₂ q₂ in
     let third = write-taken (at d₂) 3 height d₃ q₃ in
@@ -204,14 +194,14 @@ start-reached w memory pixels width height good a b c d fits r f s k u n =
 -- ---- the start is kept
 
 -- the table's numbers are those of its registers
-abbrev numbered : List Numbered → Bool
-numbered [] = true
-numbered (r ∷ rs) = eqb (numberOf (r .register)) (r .number) && numbered rs
+abbrev right : List Numbered → Bool
+right [] = true
+right (r ∷ rs) = eqb (numberOf (r .register)) (r .number) && right rs
 
-among-number : (rs : List Numbered) → numbered rs ≡ true → (index : ℕ) (w : Writable) → among index rs ≡ Writes w → index ≡ numberOf (Writes w)
+among-number : (rs : List Numbered) → right rs ≡ true → (index : ℕ) (w : Writable) → among index rs ≡ Writes w → index ≡ numberOf (Writes w)
 among-number [] t index w e = let z : _≡_ {A = ℕ} 0 1 = cc in absurd (omega arith)
 among-number (r ∷ rs) t index w e =
-    let b = both (eqb (numberOf (r .register)) (r .number)) (numbered rs) t in
+    let b = both (eqb (numberOf (r .register)) (r .number)) (right rs) t in
     by-bool (eqb index (r .number))
     (λ y.
     let q : r .register ≡ Writes w = rw y at e in
@@ -233,85 +223,24 @@ pub record Alike (d e : Device) : Type 0 where
   pub condition : conditionOf e ≡ conditionOf d
   pub defined : definedOf e ≡ definedOf d
 
--- other registers, plane and BUSY
-alike : (d : Device) (g : Registers) (p : Plane) (busy : Bool) → g .width ≡ widthOf d → g .height ≡ heightOf d → g .enable ≡ enabledOf d → g .config ≡ configuredOf d
-    → Alike d (withBusy (withPlane (withRegisters d g) p) busy)
-alike d g p busy a b c e = record { sizes = refl; width = a; height = b; enable = c; config = e; condition = refl; defined = refl }
-
-same : (d : Device) → Alike d d
-same d = alike d (d .registers) (d .plane) (d .busy) refl refl refl refl
-
 alike-start : (d e : Device) (m : Memories) → Alike d e → isStart (record { device = e; lent = m }) ≡ isStart (record { device = d; lent = m })
 unfolding isStart made lentGood
 alike-start d e m s = rw (s .sizes, s .width, s .height, s .enable, s .config, s .condition, s .defined)
 
-by-cond : {A : Type 0} (P : A → Type 0) (b : Bool) {x y : A} → (b ≡ true → P x) → (b ≡ false → P y) → P (cond b x y)
-by-cond P true f g = f refl
-by-cond P false f g = g refl
-
--- registers that are neither ENABLE, WIDTH, HEIGHT nor CONFIG_DONE
-abbrev Other : Writable → Type 0
-Other Id = Unit {0}
-Other Enable = ⊥
-Other Width = ⊥
-Other Height = ⊥
-Other ConfigDone = ⊥
-Other Sync = Unit {0}
-Other GuestId = Unit {0}
-Other CursorId = Unit {0}
-Other CursorX = Unit {0}
-Other CursorY = Unit {0}
-Other CursorOn = Unit {0}
-
-module _ (d : Device) (ring : List ℕ) (v : ℕ) where
-  P : Device → Type 0
-  P = Alike d
-
-  alike-writable : (w : Writable) → Other w → Alike d (writableWritten d ring v w .device)
-  unfolding writableWritten idWritten synced cursorOnWritten P
-  alike-writable Id o = by-cond P (isId v) (λ t. alike d _ _ _ refl refl refl refl) (λ f. same d)
-  alike-writable Enable o = absurd o
-  alike-writable Width o = absurd o
-  alike-writable Height o = absurd o
-  alike-writable ConfigDone o = absurd o
-  alike-writable Sync o = by-cond P (running (d .condition)) (λ r. by-cond P (d .registers .enable) (λ t. alike d _ _ _ refl refl refl refl) (λ f. same d)) (λ f. same d)
-  alike-writable GuestId o = alike d _ _ _ refl refl refl refl
-  alike-writable CursorId o = alike d _ _ _ refl refl refl refl
-  alike-writable CursorX o = alike d _ _ _ refl refl refl refl
-  alike-writable CursorY o = alike d _ _ _ refl refl refl refl
-  alike-writable CursorOn o =
-      let Q : A.Outcome → Type 0 = λ z. Alike d (z .device) in
-      by-cond Q (leb v 3)
-      (λ t.
-      by-cond Q (eqb v 0) (λ z. alike d _ _ _ refl refl refl refl)
-      (λ nz. by-cond Q (eqb v 1) (λ z. alike d _ _ _ refl refl refl refl) (λ f. alike d _ _ _ refl refl refl refl)))
-      (λ f. same d)
-
-other : (index : ℕ) (w : Writable) → (index ≡ 1 → ⊥) → (index ≡ 2 → ⊥) → (index ≡ 3 → ⊥) → (index ≡ 20 → ⊥) → index ≡ numberOf (Writes w) → Other w
-other index Id a b c d e = tt
-other index Enable a b c d e = a e
-other index Width a b c d e = b e
-other index Height a b c d e = c e
-other index ConfigDone a b c d e = d e
-other index Sync a b c d e = tt
-other index GuestId a b c d e = tt
-other index CursorId a b c d e = tt
-other index CursorX a b c d e = tt
-other index CursorY a b c d e = tt
-other index CursorOn a b c d e = tt
-
-alike-by : (d : Device) (ring : List ℕ) (v : ℕ) (r : Register) → ((w : Writable) → r ≡ Writes w → Other w) → Alike d (writtenBy d ring v r .device)
-unfolding writtenBy
-alike-by d ring v (Writes w) o = alike-writable d ring v w (o w refl)
-alike-by d ring v (Reads r) o = same d
-alike-by d ring v Absent o = same d
+-- a register whose number is not that of r is not r
+not-one : (index : ℕ) (w r : Writable) → registerOf index ≡ Writes w → (index ≡ numberOf (Writes r) → ⊥) → is w r ≡ false
+not-one index w r q n = ne-eqb _ _ (λ e. n (writes-number index w q ∙ e))
 
 alike-written : (d : Device) (ring : List ℕ) (index v : ℕ) → (index ≡ 1 → ⊥) → (index ≡ 2 → ⊥) → (index ≡ 3 → ⊥) → (index ≡ 20 → ⊥) → Alike d (written d ring index v .device)
-unfolding written
-alike-written d ring index v a b c e =
-    by-cond (λ (o : A.Outcome). Alike d (o .device)) (made d)
-    (λ t. alike-by d ring v (registerOf index) (λ w q. other index w a b c e (writes-number index w q)))
-    (λ f. same d)
+alike-written d ring index v a b c e = record {
+  sizes = sizes-kept d ring index v;
+  width = part-kept widthOf d ring index v (λ w q x. rw (not-one index w Width q b));
+  height = part-kept heightOf d ring index v (λ w q x. rw (not-one index w Height q c));
+  enable = part-kept enabledOf d ring index v (λ w q x. rw (not-one index w Enable q a));
+  config = part-kept configuredOf d ring index v (λ w q x. rw (not-one index w ConfigDone q e));
+  condition = part-kept conditionOf d ring index v (λ w q x. rw (not-one index w ConfigDone q e));
+  defined = defined-kept d ring index v;
+}
 
 -- a write to any register but ENABLE, WIDTH, HEIGHT and CONFIG_DONE
 pub write-keeps : (w : World) (index value : ℕ) → (index ≡ 1 → ⊥) → (index ≡ 2 → ⊥) → (index ≡ 3 → ⊥) → (index ≡ 20 → ⊥)
@@ -332,8 +261,19 @@ pub enabled-again : (w : World) → isStart w ≡ true → isStart (perform (wri
 enabled-again w s =
     let z = start-says w s in
     let d = w .device in
-    let q = write-taken w 1 1 (withEnable d) (enable-taken d (w .lent .ring) (z .is-made)) in
-    rw q (alike-start d (withEnable d) (w .lent) (alike d _ _ _ refl refl (sym (z .is-enabled)) refl) ∙ s)
+    let e = effectOf d 1 Enable in
+    let o = only-own d 1 Enable in
+    let q = write-taken w 1 1 e (enable-taken d (w .lent .ring) (z .is-made)) in
+    let alike : Alike d e = record {
+      sizes = ap sizesOf o;
+      width = ap widthOf o;
+      height = ap heightOf o;
+      enable = enable-sets d ∙ sym (z .is-enabled);
+      config = ap configuredOf o;
+      condition = ap conditionOf o;
+      defined = ap definedOf o;
+    } in
+    rw q (alike-start d e (w .lent) alike ∙ s)
 
 -- ---- "Answers 20 to 34 change nothing"
 
@@ -442,39 +382,11 @@ NoRun [] w = Unit {0}
 NoRun (c ∷ cs) w = (Leaves c ⊎ (20 ≤ perform c w .answer)) × NoRun cs (perform c w .world)
 
 -- only CONFIG_DONE touches the remembered ring
-module _ (d : Device) (ring : List ℕ) (v : ℕ) where
-  Same : A.Outcome → Type 0
-  Same o = conditionOf (o .device) ≡ conditionOf d
-
-  condition-writable : (w : Writable) → (w ≡ ConfigDone → ⊥) → Same (writableWritten d ring v w)
-  unfolding Same writableWritten idWritten enableWritten widthWritten heightWritten synced cursorOnWritten
-  condition-writable Id o = by-cond (λ (e : Device). conditionOf e ≡ conditionOf d) (isId v) (λ t. refl) (λ f. refl)
-  condition-writable Enable o = by-cond Same (eqb v 0) (λ t. refl) (λ f. by-cond Same (eqb v 1) (λ t. refl) (λ f. refl))
-  condition-writable Width o = by-cond Same (leb 1 v && leb v 2560) (λ t. refl) (λ f. refl)
-  condition-writable Height o = by-cond Same (leb 1 v && leb v 1600) (λ t. refl) (λ f. refl)
-  condition-writable ConfigDone o = absurd (o refl)
-  condition-writable Sync o =
-      let P : Device → Type 0 = λ e. conditionOf e ≡ conditionOf d in
-      by-cond P (running (d .condition)) (λ r. by-cond P (d .registers .enable) (λ t. refl) (λ f. refl)) (λ f. refl)
-  condition-writable GuestId o = refl
-  condition-writable CursorId o = refl
-  condition-writable CursorX o = refl
-  condition-writable CursorY o = refl
-  condition-writable CursorOn o =
-      by-cond Same (leb v 3) (λ t. by-cond Same (eqb v 0) (λ z. refl) (λ nz. by-cond Same (eqb v 1) (λ z. refl) (λ f. refl))) (λ f. refl)
-
-  condition-by : (r : Register) → (r ≡ Writes ConfigDone → ⊥) → Same (writtenBy d ring v r)
-  unfolding Same writtenBy
-  condition-by (Writes w) o = condition-writable w (λ e. o (ap {B = Register} (λ (x : Writable). Writes x) e))
-  condition-by (Reads r) o = refl
-  condition-by Absent o = refl
-
-  condition-kept : (index : ℕ) → (index ≡ 20 → ⊥) → Same (written d ring index v)
-  unfolding Same written
-  condition-kept index h = by-cond Same (made d) (λ t. condition-by (registerOf index) (λ e. h (writes-number index ConfigDone e))) (λ f. refl)
+condition-kept : (d : Device) (ring : List ℕ) (v index : ℕ) → (index ≡ 20 → ⊥) → conditionOf (written d ring index v .device) ≡ conditionOf d
+condition-kept d ring v index h = part-kept conditionOf d ring index v (λ w q x. rw (not-one index w ConfigDone q h))
 
 leaves-condition : (c : Call) (w : World) → Leaves c → conditionOf (perform c w .world .device) ≡ conditionOf (w .device)
-unfolding perform Same
+unfolding perform
 leaves-condition (make memory pixels) w h = absurd h
 leaves-condition (write index value) w h = condition-kept (w .device) (w .lent .ring) value index h
 leaves-condition (read index) w h = refl
