@@ -6,21 +6,16 @@ use mathlib.Core.List.{List}
 use mathlib.Core.Logic.{_↔_}
 use Prim.Native.Nat.{ℕ, _*_, _<_}
 use native.Mathlib.Omega.{arith}
-use lib.Dec.{leb}
 use lib.ListN.{length}
 use borrow.Author.Tests.{leb-false, lt-leb}
 use borrow.Table.Steps.{cases}
 use Rattle.device.specs.declared.Device.{Device}
-use Rattle.device.specs.Device.{pixelsOf, widthOf, heightOf, made}
+use Rattle.device.specs.Device.{pixelsOf, widthOf, heightOf, modeFits, made}
 use Rattle.adapter.specs.Picture.{lengthsGood, pictureOf}
 
 -- screen, image and output have their lengths
 abbrev pub lent : Device → List ℕ → List ℕ → List ℕ → Bool
 lent d screen image output = lengthsGood (pixelsOf d) (length screen) (length image) (length output)
-
--- the mode's pixels are at most P
-abbrev fits : Device → Bool
-fits d = leb (widthOf d * heightOf d) (pixelsOf d)
 
 -- ---- "Answers 20 to 34 change nothing"
 
@@ -31,8 +26,8 @@ refused-picture d screen image output =
     cases (made d)
     (λ m.
     cases (lent d screen image output)
-    (λ l. cases (fits d) (λ t. simp (m, l, t) (λ n. absurd (n refl))) (λ f. simp (m, l, f) (λ n. refl)))
-    (λ u. cases (fits d) (λ t. simp (m, u, t) (λ n. refl)) (λ f. simp (m, u, f) (λ n. refl))))
+    (λ l. cases (modeFits d) (λ t. simp (m, l, t) (λ n. absurd (n refl))) (λ f. simp (m, l, f) (λ n. refl)))
+    (λ u. cases (modeFits d) (λ t. simp (m, u, t) (λ n. refl)) (λ f. simp (m, u, f) (λ n. refl))))
     (λ f. rw f (λ n. refl))
 
 -- ---- the answers of a picture
@@ -51,16 +46,16 @@ is-24 true false = (λ e. (refl, refl), λ e. refl)
 is-24 false f = (λ e. absurd (omega arith), λ e. absurd (true≢false cc))
 
 module _ (d : Device) (screen image output : List ℕ) (m : made d ≡ true) where
-  picture-number : pictureOf d screen image output .answer ≡ pictureAnswer (lent d screen image output) (fits d)
+  picture-number : pictureOf d screen image output .answer ≡ pictureAnswer (lent d screen image output) (modeFits d)
   unfolding pictureOf
   picture-number =
       cases (lent d screen image output)
-      (λ l. cases (fits d) (λ t. rw (m, l, t)) (λ f. rw (m, l, f)))
+      (λ l. cases (modeFits d) (λ t. rw (m, l, t)) (λ f. rw (m, l, f)))
       (λ f. rw (m, f))
 
   -- a lent length
   pub picture-20 : (pictureOf d screen image output .answer ≡ 20) ↔ (lent d screen image output ≡ false)
-  picture-20 = rw picture-number (is-20 (lent d screen image output) (fits d))
+  picture-20 = rw picture-number (is-20 (lent d screen image output) (modeFits d))
 
   -- "width·height above P"
   pub picture-24 : (pictureOf d screen image output .answer ≡ 24)

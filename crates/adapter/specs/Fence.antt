@@ -6,7 +6,7 @@ use Rattle.device.specs.declared.Device.{Device}
 
 -- "Fence: the last number executed."
 abbrev pub fenceOf : Device → ℕ
-fenceOf d = d .fence
+fenceOf d = d .marks .fence
 
 -- "Fence f has passed if the last fence minus f, taken modulo 2^32, is below 2^31 (house)."
 abbrev pub fencePassed : ℕ → ℕ → Bool

@@ -1,8 +1,8 @@
 -- A device's picture: document 01, "The cursor plane".
-use Prim.Native.Nat.{ℕ, _*_}
+use Prim.Native.Nat.{ℕ}
 use mathlib.Core.Bool.{Bool, cond, _&&_}
 use mathlib.Core.List.{List}
-use lib.Dec.{eqb, leb}
+use lib.Dec.{eqb}
 use lib.ListN.{length}
 use Rattle.picture.specs.declared.Over.{Over}
 use Rattle.picture.specs.declared.Over.the-variants.{Nothing, Cursor as Appears}
@@ -10,7 +10,7 @@ use Rattle.picture.specs.Picture.{composed}
 use Rattle.cursor.specs.declared.Defined.{Defined}
 use Rattle.cursor.specs.declared.Defined.the-variants.{Undefined, Cursor}
 use Rattle.device.specs.declared.Device.{Device}
-use Rattle.device.specs.Device.{pixelsOf, widthOf, heightOf, made}
+use Rattle.device.specs.Device.{pixelsOf, widthOf, heightOf, definedOf, modeFits, made}
 use Rattle.adapter.specs.declared.PictureAnswer.{PictureAnswer}
 use Rattle.adapter.specs.declared.PictureAnswer.the-variants.{Taken as Shown, WrongLength as NotLent, TooLarge}
 
@@ -43,8 +43,8 @@ unfoldable pub pictureOf : Device → List ℕ → List ℕ → List ℕ → Pic
 pictureOf d screen image output =
     cond (made d)
     (cond (lengthsGood (pixelsOf d) (length screen) (length image) (length output))
-    (cond (leb (widthOf d * heightOf d) (pixelsOf d))
-    (record { answer = 0; output = composed (widthOf d) (heightOf d) (cursorOver d (d .defined)) screen image output })
+    (cond (modeFits d)
+    (record { answer = 0; output = composed (widthOf d) (heightOf d) (cursorOver d (definedOf d)) screen image output })
     (record { answer = 24; output = output }))
     (record { answer = 20; output = output }))
     (record { answer = 24; output = output })

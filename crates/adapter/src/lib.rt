@@ -3,6 +3,7 @@ use cursor::Defined;
 use picture::Over;
 use picture::Seen;
 ghost use mathlib.Core.Path.{_≡_};
+ghost use Rattle.device.specs.Device.{definedOf};
 ghost use Rattle.adapter.specs.Picture.{pictureNumber, pictured, cursorOver, lengthsGood, pictureOf};
 ghost use Rattle.adapter.specs.Offscreen.{offscreenOf};
 ghost use Rattle.adapter.specs.Fence.{fenceOf, fencePassed};
@@ -15,9 +16,9 @@ pub use device::Plane;
 pub use device::Registers;
 pub use device::Sizes;
 pub use device::condition_of;
-pub use device::define_cursor;
 pub use device::is_made;
 pub use device::make;
+pub use device::mode_fits;
 pub use device_run::Ran;
 pub use device_run::RunAnswer;
 pub use device_run::is_ready;
@@ -61,10 +62,11 @@ pub fn picture_number(answer: PictureAnswer) -> u32
 
 // The cursor that appears in a picture: shown, and its remembered id is that of the defined cursor.
 fn cursor_over(d: Device) -> Over
-    ensures { λ r. ⌜ r ≡ cursorOver d (d .defined) ⌝ }
+    ensures { λ r. ⌜ r ≡ cursorOver d (definedOf d) ⌝ }
 {
     let plane = d.plane;
-    let defined = d.defined;
+    let marks = d.marks;
+    let defined = marks.defined;
     match defined {
         Defined::Undefined => {
             return Over::Nothing;
@@ -112,7 +114,8 @@ pub fn picture(d: Device, screen: &[u32], image: &[u32], output: &mut [u32]) -> 
         return PictureAnswer::WrongLength;
     }
     let g = d.registers;
-    if pixels < g.width as usize * g.height as usize {
+    let fits = mode_fits(d);
+    if !fits {
         return PictureAnswer::TooLarge;
     }
     let over = cursor_over(d);
@@ -156,7 +159,8 @@ pub fn offscreen(d: Device) -> Edges
 pub fn fence(d: Device) -> u32
     ensures { λ r. ⌜ r ≡ fenceOf d ⌝ }
 {
-    d.fence
+    let marks = d.marks;
+    marks.fence
 }
 
 // Whether a fence has passed: numbers wrap, and half of them lie behind the last.
@@ -164,7 +168,7 @@ pub fn fence(d: Device) -> u32
 pub fn fence_passed(d: Device, number: u32) -> bool
     ensures { λ r. ⌜ r ≡ fencePassed (fenceOf d) number ⌝ }
 {
-    let last = d.fence;
-    let gap = std::num::wrapping_sub_u32(last, number);
+    let marks = d.marks;
+    let gap = std::num::wrapping_sub_u32(marks.fence, number);
     gap < 2147483648
 }

@@ -1,4 +1,4 @@
--- Laws of lent words that are written.
+-- Laws of lent words: what is written into them, and calls on the device that they spell.
 use mathlib.Core.Path.{_≡_, refl, _∙_}
 use mathlib.Core.List.{List, [], _∷_}
 use Prim.Native.Nat.{ℕ}
@@ -6,7 +6,15 @@ use native.Mathlib.Omega.{arith}
 use lib.ListN.{length, set}
 use borrow.Author.Tests.{eq-eqb}
 use Rattle.device.specs.declared.Device.{Device}
-use Rattle.device_words.specs.Words.{wordsOf, putIn}
+use Rattle.register_write.proofs.Refusals.{unmade-write}
+use Rattle.register_read.specs.Registers.{readOf}
+use Rattle.device_run.specs.Run.{Lent, runOf}
+use Rattle.adapter.specs.Picture.{pictureOf}
+use Rattle.adapter.specs.Offscreen.{offscreenOf}
+use Rattle.device_words.specs.declared.Held.{Held}
+use Rattle.device_words.specs.Words.{wordsOf, spelledIn, wellFormed, heldIn, putIn}
+use Rattle.device_words.proofs.RoundTrip.{by-held}
+use Rattle.capi.specs.Calls.{writeHeld, writeIn, readHeld, readIn, runHeld, runIn, pictureHeld, pictureIn, edgesHeld, fenceHeld, fenceIn, passedHeld, passedIn}
 
 -- A device put into 64 words leaves its own.
 pub put-whole : (w : List ℕ) (d : Device) → length w ≡ 64 → (after : List ℕ) → after ≡ putIn w d → after ≡ wordsOf d
@@ -20,3 +28,42 @@ four-stored (w ∷ x ∷ []) a b c d e = absurd (omega (arith, e))
 four-stored (w ∷ x ∷ y ∷ []) a b c d e = absurd (omega (arith, e))
 four-stored (w ∷ x ∷ y ∷ z ∷ []) a b c d e = refl
 four-stored (w ∷ x ∷ y ∷ z ∷ v ∷ l) a b c d e = absurd (omega (arith, e))
+
+-- ---- the device that 64 words spell: these calls answer for one that no call can have made what they answer for none
+
+module _ (w : List ℕ) (spelled : Held) (whole : length w ≡ 64) (is : spelled ≡ spelledIn w) where
+  pub write-in : (ring : List ℕ) (index value : ℕ) → writeHeld w ring index value spelled ≡ writeIn w ring index value
+  unfolding writeHeld writeIn
+  write-in ring index value =
+      rw (is, eq-eqb (length w) 64 whole)
+      (by-held w (λ s h. writeHeld w ring index value s ≡ writeHeld w ring index value h) (λ d. refl) (λ d f e. rw (unmade-write d ring index value f, e)) refl)
+
+  pub read-in : (index : ℕ) → readHeld index spelled ≡ readIn w index
+  unfolding readHeld readIn readOf
+  read-in index =
+      rw (is, eq-eqb (length w) 64 whole) (by-held w (λ s h. readHeld index s ≡ readHeld index h) (λ d. refl) (λ d f e. rw f) refl)
+
+  pub run-in : (l : Lent) (budget : ℕ) → runHeld w l budget spelled ≡ runIn w l budget
+  unfolding runHeld runIn runOf
+  run-in l budget =
+      rw (is, eq-eqb (length w) 64 whole) (by-held w (λ s h. runHeld w l budget s ≡ runHeld w l budget h) (λ d. refl) (λ d f e. rw (f, e)) refl)
+
+  pub picture-in : (screen image output : List ℕ) → pictureHeld screen image output spelled ≡ pictureIn w screen image output
+  unfolding pictureHeld pictureIn pictureOf
+  picture-in screen image output =
+      rw (is, eq-eqb (length w) 64 whole)
+      (by-held w (λ s h. pictureHeld screen image output s ≡ pictureHeld screen image output h) (λ d. refl) (λ d f e. rw f) refl)
+
+  -- fences make the test themselves
+  pub fence-in : fenceHeld (wellFormed spelled) ≡ fenceIn w
+  unfolding fenceIn heldIn
+  fence-in = rw (is, eq-eqb (length w) 64 whole)
+
+  pub passed-in : (f : ℕ) → passedHeld f (wellFormed spelled) ≡ passedIn w f
+  unfolding passedIn heldIn
+  passed-in f = rw (is, eq-eqb (length w) 64 whole)
+
+-- edges of such a device are those of none
+pub edges-in : (w : List ℕ) → edgesHeld (spelledIn w) ≡ edgesHeld (heldIn w)
+unfolding edgesHeld offscreenOf
+edges-in w = by-held w (λ s h. edgesHeld s ≡ edgesHeld h) (λ d. refl) (λ d f e. rw f) refl

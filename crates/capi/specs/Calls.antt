@@ -12,7 +12,7 @@ use Rattle.register_read.specs.Answers.{Reading}
 use Rattle.adapter.specs.Picture.{Pictured, pictureOf}
 use Rattle.register_read.specs.Registers.{bit, readOf}
 use Rattle.register_write.specs.Registers.{written}
-use Rattle.device_run.specs.Run.{RunOutcome, runOf}
+use Rattle.device_run.specs.Run.{Lent, RunOutcome, runOf}
 use Rattle.adapter.specs.Offscreen.{offscreenOf}
 use Rattle.adapter.specs.Fence.{fenceOf, fencePassed}
 use Rattle.device_words.specs.declared.Held.{Held}
@@ -66,24 +66,21 @@ readIn w index = inWords w (readHeld index (heldIn w)) (packed 20 0)
 pub record RunCall : Type 0 where
   pub result : ℕ
   pub device : List ℕ
-  pub ring : List ℕ
-  pub screen : List ℕ
-  pub cursor : List ℕ
+  pub lent : Lent
 
-abbrev pub runCall : ℕ → List ℕ → List ℕ → List ℕ → List ℕ → RunCall
-runCall result device ring screen cursor = record { result = result; device = device; ring = ring; screen = screen; cursor = cursor }
+abbrev pub runCall : ℕ → List ℕ → Lent → RunCall
+runCall result device l = record { result = result; device = device; lent = l }
 
 abbrev pub runWords : RunOutcome → RunCall
-runWords o = runCall (packed (o .answer) (o .count)) (wordsOf (o .device)) (o .ring) (o .screen) (o .cursor)
+runWords o = runCall (packed (o .answer) (o .count)) (wordsOf (o .device)) (o .lent)
 
 -- Words that hold no device: not configured, 22.
-unfoldable pub runHeld : List ℕ → List ℕ → List ℕ → List ℕ → List ℕ → ℕ → Held → RunCall
-runHeld w ring framebuffer screen cursor budget (Holds d) = runWords (runOf d ring framebuffer screen cursor budget)
-runHeld w ring framebuffer screen cursor budget Nothing = runCall (packed 22 0) w ring screen cursor
+unfoldable pub runHeld : List ℕ → Lent → ℕ → Held → RunCall
+runHeld w l budget (Holds d) = runWords (runOf d l budget)
+runHeld w l budget Nothing = runCall (packed 22 0) w l
 
-unfoldable pub runIn : List ℕ → List ℕ → List ℕ → List ℕ → List ℕ → ℕ → RunCall
-runIn w ring framebuffer screen cursor budget =
-    inWords w (runHeld w ring framebuffer screen cursor budget (heldIn w)) (runCall (packed 20 0) w ring screen cursor)
+unfoldable pub runIn : List ℕ → Lent → ℕ → RunCall
+runIn w l budget = inWords w (runHeld w l budget (heldIn w)) (runCall (packed 20 0) w l)
 
 -- ---- picture, offscreen rectangle, fences
 

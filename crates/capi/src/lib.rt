@@ -7,10 +7,13 @@ use adapter::Value;
 use device_words::Held;
 ghost use mathlib.Core.Path.{_≡_};
 ghost use lib.ListN.{length};
-ghost use Rattle.register_read.specs.Registers.{bit, readOf};
-ghost use Rattle.adapter.specs.Fence.{fenceOf, fencePassed};
+ghost use Rattle.register_read.specs.Registers.{readOf};
+ghost use Rattle.device_words.specs.declared.Held.the-variants.{Device as Holds};
+ghost use Rattle.device_words.specs.Words.{wellFormed};
 ghost use Rattle.ring.specs.Append.{appendOf};
-ghost use Rattle.capi.specs.Calls.{packed, call, makeIn, writeIn, readIn, runCall, runIn, pictureIn, edgesCall, edgeWords, edgesHeld, offscreenIn, fenceIn, passedIn};
+ghost use Rattle.device_run.specs.Run.{lentBefore, lentAfter};
+ghost use Rattle.capi.specs.Calls.{packed, call, makeIn, writeIn, readIn, runCall, runIn, pictureIn};
+ghost use Rattle.capi.specs.Calls.{edgesCall, edgeWords, edgesHeld, offscreenIn, fenceHeld, fenceIn, passedHeld, passedIn};
 
 fn pack(answer: u32, value: u32) -> u64
     ensures { λ r. ⌜ r ≡ packed answer value ⌝ }
@@ -48,8 +51,8 @@ pub extern "C" fn svga_write(device: &mut [u32], ring: &[u32], index: u32, value
     if device.len() != 64 {
         return 20;
     }
-    let held = device_words::held_in(device);
-    match held {
+    let spelled = device_words::spelled_in(device);
+    match spelled {
         Held::Device(d) => {
             let w = adapter::write(d, ring, index, value);
             let answer = w.answer;
@@ -85,8 +88,8 @@ pub extern "C" fn svga_read(device: &[u32], index: u32) -> u64
     if device.len() != 64 {
         return pack(20, 0);
     }
-    let held = device_words::held_in(device);
-    match held {
+    let spelled = device_words::spelled_in(device);
+    match spelled {
         Held::Device(d) => {
             return read_value(d, index);
         }
@@ -107,13 +110,14 @@ pub extern "C" fn svga_run(
     cursor: &mut [u32],
     budget: u32,
 ) -> u64
-    ensures { λ r. ⌜ runCall r (now (device .exit)) (now (ring .exit)) (now (screen .exit)) (now (cursor .exit)) ≡ runIn (now (device .entry)) (now (ring .entry)) (now (framebuffer .entry)) (now (screen .entry)) (now (cursor .entry)) budget ⌝ }
+    ensures { λ r. ⌜ runCall r (now (device .exit)) (lentAfter ring framebuffer screen cursor)
+        ≡ runIn (now (device .entry)) (lentBefore ring framebuffer screen cursor) budget ⌝ }
 {
     if device.len() != 64 {
         return pack(20, 0);
     }
-    let held = device_words::held_in(device);
-    match held {
+    let spelled = device_words::spelled_in(device);
+    match spelled {
         Held::Device(d) => {
             let ran = adapter::run(d, ring, framebuffer, screen, cursor, budget);
             let answer = ran.answer;
@@ -135,13 +139,14 @@ pub extern "C" fn svga_picture(
     cursor: &[u32],
     output: &mut [u32],
 ) -> u32
-    ensures { λ r. ⌜ record { answer = r; output = now (output .exit) } ≡ pictureIn (now (device .entry)) (now (screen .entry)) (now (cursor .entry)) (now (output .entry)) ⌝ }
+    ensures { λ r. ⌜ record { answer = r; output = now (output .exit) }
+        ≡ pictureIn (now (device .entry)) (now (screen .entry)) (now (cursor .entry)) (now (output .entry)) ⌝ }
 {
     if device.len() != 64 {
         return 20;
     }
-    let held = device_words::held_in(device);
-    match held {
+    let spelled = device_words::spelled_in(device);
+    match spelled {
         Held::Device(d) => {
             let answer = adapter::picture(d, screen, cursor, output);
             return adapter::picture_number(answer);
@@ -192,10 +197,20 @@ pub extern "C" fn svga_offscreen(device: &[u32], edges: &mut [u32]) -> u32
     if edges.len() != 4 {
         return 20;
     }
-    let held = device_words::held_in(device);
-    let e = edges_of(held);
+    let spelled = device_words::spelled_in(device);
+    let e = edges_of(spelled);
     put_edges(edges, e);
     0
+}
+
+fn fence_value(d: Device) -> u64
+    ensures { λ r. ⌜ r ≡ fenceHeld (wellFormed (Holds d)) ⌝ }
+{
+    let made = adapter::is_made(d);
+    if !made {
+        return pack(30, 0);
+    }
+    pack(0, adapter::fence(d))
 }
 
 // The last fence executed, in the low half.
@@ -207,10 +222,10 @@ pub extern "C" fn svga_fence(device: &[u32]) -> u64
     if device.len() != 64 {
         return pack(20, 0);
     }
-    let held = device_words::held_in(device);
-    match held {
+    let spelled = device_words::spelled_in(device);
+    match spelled {
         Held::Device(d) => {
-            return pack(0, adapter::fence(d));
+            return fence_value(d);
         }
         Held::Nothing => {
             return pack(30, 0);
@@ -219,8 +234,12 @@ pub extern "C" fn svga_fence(device: &[u32]) -> u64
 }
 
 fn passed_value(d: Device, fence: u32) -> u64
-    ensures { λ r. ⌜ r ≡ packed 0 (bit (fencePassed (fenceOf d) fence)) ⌝ }
+    ensures { λ r. ⌜ r ≡ passedHeld fence (wellFormed (Holds d)) ⌝ }
 {
+    let made = adapter::is_made(d);
+    if !made {
+        return pack(30, 0);
+    }
     let passed = adapter::fence_passed(d, fence);
     if passed {
         return pack(0, 1);
@@ -237,8 +256,8 @@ pub extern "C" fn svga_fence_passed(device: &[u32], fence: u32) -> u64
     if device.len() != 64 {
         return pack(20, 0);
     }
-    let held = device_words::held_in(device);
-    match held {
+    let spelled = device_words::spelled_in(device);
+    match spelled {
         Held::Device(d) => {
             return passed_value(d, fence);
         }

@@ -21,18 +21,16 @@ use Rattle.order.specs.Table.{unless, turnOf}
 use Rattle.order.specs.Claim.{run, spent, standing, ended, Reply, ran, answerNumber, taken, counted, metEnd, met, faulted, first, fed, done, stood, says}
 use Rattle.order.specs.Queue.{fresh, offer, runs, try, act, play}
 use Rattle.order.proofs.QueueLaws.{runs-ends, runs-exec, demand3}
-use Rattle.command.specs.Commands.{kindOf, headWords, sizeOf, headGood, operandsGood, actionOf}
-use Rattle.command.specs.Words.{decoded}
-use Rattle.command.specs.Offered.{commands}
+use Rattle.command.specs.Commands.{entry, kindOf, commands}
 use Rattle.command.proofs.Laws.{command-laws}
-use Rattle.effect.specs.Effects.{Machine, screenAfter, cursorAfter, marksAfter}
+use Rattle.effect.specs.Effects.{Scene, Machine, screenAfter, cursorAfter, fenceAfter, definedAfter}
 use Rattle.effect.specs.Effects as E
 use Rattle.ring.specs.declared.Ring.{Ring}
 use Rattle.ring.specs.Acceptance.{nextOf}
 use Rattle.ring.specs.Waiting.{after, ahead, between, words, waiting, placed, nextGood}
-use Rattle.run.specs.Run.{Scene, turnIn, stamped, left, runWords, fitting, runIn}
+use Rattle.run.specs.Run.{knownOf, turnIn, stamped, left, runWords, fitting, runIn}
 use Rattle.device.specs.declared.Condition.the-variants.{Running}
-use Rattle.device.specs.Device.{sizesGood, modeGood, ringGood, conditionGood, definedGood, made}
+use Rattle.device.specs.Device.{sizesGood, modeGood, conditionGood, definedGood, made}
 use Rattle.device_run.specs.Run.{lentGood, conditionAfter, busyAfter, runBy, runOf}
 use Rattle.device_run.proofs.RunLaws.{run-by}
 use Rattle.adapter.specs.Picture.{Pictured, cursorOver, lengthsGood, pictureOf}
@@ -43,7 +41,7 @@ use Rattle.cases.specs.Impostors.{NotRefused, OneFence, shows, BareScree
 module _ (s : Scene) (m : Machine) where
   -- one command waits behind a FENCE's two appends, and so a run of budget b counts the smaller of b and 1
   one-waits : (b : ℕ) (r : Reply) (z : Line Machine) (f : Option Cause) → Claimed s m (answering r (fence 7 ++ run b ∷ [])) z f → counted r ≡ min b 1
-  unfolding steps straight whole unless turnOf taken counted faulted first fed done stood says kindOf headWords sizeOf headGood operandsGood decoded commands
+  unfolding steps straight whole unless turnOf taken counted faulted first fed done stood says entry kindOf commands
   one-waits b r z f d = ap counted (d .answers (answering r (fence 7)) [] (record { op = run b; reply = r }) refl)
 
   pub refuses-everything : RefusesEverything s m
@@ -60,20 +58,20 @@ module _ (s : Scene) (m : Machine) where
 
   -- after one command the fence is 7, whatever else waits
   pub touches-nothing : TouchesNothing s m
-  unfolding straight unless turnOf taken counted fed done kindOf headWords sizeOf headGood operandsGood actionOf decoded commands E.done marksAfter
+  unfolding straight unless turnOf taken counted fed done entry kindOf commands E.done fenceAfter definedAfter
   touches-nothing zero-before z f same d =
       let new : fenceIn z ≡ 7 = ap fenceIn (d .same) in
       let old : fenceIn z ≡ m .marks .fence = ap (λ (x : Machine). x .marks .fence) same in
       omega arith
 
   pub whole-ring-at-once : WholeRingAtOnce s m
-  unfolding straight unless turnOf taken counted fed done kindOf headWords sizeOf headGood operandsGood actionOf decoded commands E.done marksAfter
+  unfolding straight unless turnOf taken counted fed done entry kindOf commands E.done fenceAfter definedAfter
   whole-ring-at-once z f eight d = let seven : fenceIn z ≡ 7 = ap fenceIn (d .same) in omega arith
 
   pub right-is-not-caught : RightIsNotCaught s m
-  unfolding play act offer try fresh metEnd met runs unless turnOf kindOf headWords sizeOf headGood operandsGood actionOf decoded commands E.done marksAfter
+  unfolding play act offer try fresh metEnd met runs unless turnOf entry kindOf commands E.done fenceAfter definedAfter
   right-is-not-caught caught =
-      caught _ _ refl (demand3 (command-laws (E.done (s .width) (s .rows) (s .framebuffer)) smallest (omega arith)) m (omega arith) (fence 7 ++ run 2 ∷ []))
+      caught _ _ refl (demand3 (command-laws knownOf (E.done s) smallest (omega arith)) m (omega arith) (fence 7 ++ run 2 ∷ []))
 
 end-number : (e : End) → endNumber e ≤ 13
 end-number Drained = omega arith
@@ -102,12 +100,12 @@ run-number s g budget ring m =
 
 pub not-refused : NotRefused
 unfolding runBy
-not-refused d ring framebuffer screen cursor budget c =
-    rw (run-by d ring framebuffer screen cursor budget (Running (c .place)) (c .well) (c .lent) (c .configured) (c .enabled) (c .fits) (c .running))
-    (run-number _ (c .place) budget ring _)
+not-refused d l budget c =
+    rw (run-by d l budget (Running (c .place)) (c .well) (c .right) (c .configured) (c .enabled) (c .fits) (c .running))
+    (run-number _ (c .place) budget (l .ring) _)
 
 pub one-fence : OneFence
-unfolding sizesGood modeGood ringGood conditionGood definedGood made lentGood runOf runBy conditionAfter busyAfter runIn runWords left stamped fitting placed nextGood turnIn after ahead between words waiting runs unless turnOf kindOf headWords sizeOf headGood operandsGood actionOf decoded commands E.done screenAfter cursorAfter marksAfter
+unfolding sizesGood modeGood conditionGood definedGood made lentGood runOf runBy conditionAfter busyAfter runIn runWords left stamped fitting placed nextGood turnIn after ahead between words waiting runs unless turnOf entry kindOf commands E.done screenAfter cursorAfter fenceAfter definedAfter
 one-fence rest framebuffer screen cursor r f s c = rw (r, f, s, c)
 
 -- the blue pixel of the cursor

@@ -8,11 +8,9 @@ use Rattle.raster.specs.Painters.{rowsFit, filled, moves, copied}
 use Rattle.cursor.specs.Plane.{shapeGood, covers}
 use Rattle.order.specs.Table.{unless, turnOf}
 use Rattle.order.specs.Queue.{runs}
-use Rattle.command.specs.Commands.{kindOf, headWords, sizeOf, headGood, operandsGood}
-use Rattle.command.specs.Words.{decoded}
-use Rattle.command.specs.Offered.{commands}
+use Rattle.command.specs.Commands.{entry, kindOf, commands}
 use Rattle.cases.specs.Cases.{AllEqual, cases}
 
 pub cases-hold : AllEqual cases
-unfolding cases inRect inArea tabulate painted paintedIf rasterOp blendPixel rowsFit filled moves copied shapeGood covers unless turnOf runs kindOf headWords sizeOf headGood operandsGood decoded commands
+unfolding cases inRect inArea tabulate painted paintedIf rasterOp blendPixel rowsFit filled moves copied shapeGood covers unless turnOf runs entry kindOf commands
 cases-hold = (refl, (refl, (refl, (refl, (refl, (refl, (refl, (refl, (refl, (refl, tt))))))))))

@@ -16,9 +16,9 @@ use Rattle.order.specs.Table.{turnOf}
 use Rattle.order.specs.Claim.{answerNumber}
 use Rattle.order.specs.Queue.{runs}
 use Rattle.ring.specs.Waiting.{carried}
-use Rattle.command.specs.Commands.{sizeOf}
-use Rattle.command.specs.Offered.{commandIn}
-use Rattle.run.specs.Run.{scene, machine, table}
+use Rattle.command.specs.Commands.{sizeBy, kindIn}
+use Rattle.effect.specs.Effects.{scene}
+use Rattle.run.specs.Run.{machine, table}
 use Rattle.register_read.specs.Registers.{bit}
 use Rattle.adapter.specs.Fence.{fencePassed}
 
@@ -58,7 +58,7 @@ zeros n = replicate n 0
 
 -- All words of the command with this head.
 abbrev pub size : List ℕ → ℕ
-size head = sizeOf (commandIn head)
+size head = sizeBy (kindIn head) head
 
 -- What a run of budget 1 answers where these words wait in the smallest ring: 2 where it executes a command, 1 where it waits for the rest of it.
 abbrev pub answer : List ℕ → ℕ

@@ -1,11 +1,10 @@
 -- Document 01, "How tight the promises are": "These impostors have to be caught". For each a list of operations with the answers that it gives, a device
 -- or a picture on which it breaks a claim or an equation that the code is held to.
-use Prim.Native.Nat.{ℕ, _*_, _≤_}
+use Prim.Native.Nat.{ℕ, _≤_}
 use mathlib.Core.Path.{_≡_}
 use mathlib.Core.Bool.{true, false}
 use mathlib.Core.Option.{Option}
 use mathlib.Core.List.{List, [], _∷_, _++_}
-use lib.Dec.{leb}
 use lib.ListN.{length}
 use Rattle.cursor.specs.declared.Defined.the-variants.{Undefined, Cursor}
 use Rattle.order.specs.declared.Cause.{Cause}
@@ -14,13 +13,13 @@ use Rattle.order.specs.Straight.{Line}
 use Rattle.order.specs.Table.{turnOf}
 use Rattle.order.specs.Claim.{Op, append, run, spent, standing, ended, Reply, appended, ran, Event, Demand3}
 use Rattle.ring.specs.declared.Ring.{Ring}
-use Rattle.effect.specs.Effects.{Machine}
-use Rattle.run.specs.Run.{Scene, table}
+use Rattle.effect.specs.Effects.{Scene, Machine}
+use Rattle.run.specs.Run.{table}
 use Rattle.device.specs.declared.Condition.the-variants.{Idle, Running}
 use Rattle.device.specs.declared.Device.{Device}
-use Rattle.device.specs.Device.{pixelsOf, widthOf, heightOf, freshRegisters, made}
+use Rattle.device.specs.Device.{freshRegisters, modeFits, made}
 use Rattle.register_write.specs.Registers.{setMode, setState}
-use Rattle.device_run.specs.Run.{lentGood, runOf}
+use Rattle.device_run.specs.Run.{Lent, lent, lentGood, runOf}
 use Rattle.adapter.specs.Picture.{pictureOf}
 use Rattle.cases.specs.Cases.{smallest}
 
@@ -79,20 +78,18 @@ module _ (s : Scene) (m : Machine) where
 -- ---- runs of a device, by `runOf`, to which `adapter::run` is held
 
 -- A device that none of the refusals 20 to 24 concerns.
-pub record CanRun (d : Device) (ring framebuffer screen cursor : List ℕ) : Type 0 where
+pub record CanRun (d : Device) (l : Lent) : Type 0 where
   pub well : made d ≡ true
-  pub lent : lentGood d (length ring) (length framebuffer) (length screen) (length cursor) ≡ true
+  pub right : lentGood d l ≡ true
   pub configured : d .registers .config ≡ true
   pub enabled : d .registers .enable ≡ true
-  pub fits : leb (widthOf d * heightOf d) (pixelsOf d) ≡ true
+  pub fits : modeFits d ≡ true
   pub place : Ring
   pub running : d .condition ≡ Running place
 
 -- "a run that refuses everything": there a run answers 0, 1, 2 or a fault, of any budget.
 abbrev pub NotRefused : Type 0
-NotRefused =
-    (d : Device) (ring framebuffer screen cursor : List ℕ) (budget : ℕ) → CanRun d ring framebuffer screen cursor
-    → runOf d ring framebuffer screen cursor budget .answer ≤ 13
+NotRefused = (d : Device) (l : Lent) (budget : ℕ) → CanRun d l → runOf d l budget .answer ≤ 13
 
 -- A device in the mode 4 by 1, enabled, and configured with the smallest ring; its last fence, and STOP in words.
 abbrev pub device : ℕ → ℕ → Device
@@ -100,8 +97,7 @@ device fence stop = record {
   sizes = record { memory = 10256; pixels = 4 };
   registers = setState (setMode freshRegisters 4 1) 0x90000000 true true;
   plane = record { shown = false; id = 0; x = 0; y = 0 };
-  defined = Undefined;
-  fence = fence;
+  marks = record { fence = fence; defined = Undefined };
   busy = false;
   condition = Running (record { min = 4; max = 2564; stop = stop });
 }
@@ -115,8 +111,8 @@ twoFences stop rest = 16 ∷ 10256 ∷ 32 ∷ stop ∷ 30 ∷ 7 ∷ 30 ∷ 8 ∷
 abbrev pub OneFence : Type 0
 OneFence =
     (rest framebuffer screen cursor : List ℕ) → length rest ≡ 2556 → length framebuffer ≡ 4 → length screen ≡ 4 → length cursor ≡ 4096
-    → runOf (device 0 4) (twoFences 16 rest) framebuffer screen cursor 1
-    ≡ record { answer = 2; count = 1; device = device 7 6; ring = twoFences 24 rest; screen = screen; cursor = cursor }
+    → runOf (device 0 4) (lent (twoFences 16 rest) framebuffer screen cursor) 1
+    ≡ record { answer = 2; count = 1; device = device 7 6; lent = lent (twoFences 24 rest) framebuffer screen cursor }
 
 -- ---- pictures
 
@@ -126,8 +122,7 @@ shows = record {
   sizes = record { memory = 10256; pixels = 1 };
   registers = setMode freshRegisters 1 1;
   plane = record { shown = true; id = 1; x = 0; y = 0 };
-  defined = Cursor (record { id = 1; hotx = 0; hoty = 0; w = 1; h = 1 });
-  fence = 0;
+  marks = record { fence = 0; defined = Cursor (record { id = 1; hotx = 0; hoty = 0; w = 1; h = 1 }) };
   busy = false;
   condition = Idle;
 }

@@ -1,191 +1,110 @@
--- What holds of the nine commands: words give back the command that they were made of, a turn of the table is the function's turn, and the table
--- keeps what the theorem of `order` asks.
+-- What holds of document 01's rows: a turn looks at a command's own words, and the table keeps what the theorem of `order` asks.
 -- Assumes nothing.
-use mathlib.Core.Path.{_≡_, refl, _∙_}
-use mathlib.Core.Bool.{true, false, cond}
+use mathlib.Core.Path.{_≡_, refl, sym, ap, _∙_}
+use mathlib.Core.Bool.{Bool, true, false}
 use mathlib.Core.List.{List, [], _∷_}
-use Prim.Native.Nat.{ℕ, _≤_, _<_}
+use Prim.Native.Nat.{ℕ, _+_, _≤_, _<_}
 use native.Mathlib.Omega.{arith}
 use lib.ListN.{length, take, getD}
 use lib.Seq.{getD-take}
-use lib.Dec.{leb}
-use borrow.Author.Tests.{le-leb, leb-true}
-use Rattle.geometry.proofs.Tests.{by-bool}
-use Rattle.order.specs.Straight.{ends, exec}
-use Rattle.order.specs.Straight as O
-use Rattle.order.specs.declared.End.the-variants.{Drained, Waiting, Fault}
-use Rattle.order.specs.declared.Cause.the-variants.{NotOffered}
-use Rattle.order.specs.Table.{unless, turnAt, turnOf}
+use Rattle.order.specs.Straight.{Turn, ends, exec}
+use Rattle.order.specs.Table.{Table, headOf, sizeOf, allOf, turnAt, turnOf}
 use Rattle.order.proofs.Laws.{Laws}
 use Rattle.order.proofs.Tables.{laws-of}
 use Rattle.command.specs.declared.Action.{Action}
-use Rattle.command.specs.declared.Turn.{Turn}
-use Rattle.command.specs.declared.Turn.the-variants.{Ends, Executes}
 use Rattle.command.specs.declared.Kind.{Kind}
 use Rattle.command.specs.declared.Kind.the-variants.{Update, RectFill, RectCopy, RectRopFill, RectRopCopy, DefineAlphaCursor, UpdateVerbose, Fence, Escape, Foreign}
-use Rattle.command.specs.declared.Command.{Command}
-use Rattle.command.specs.declared.Command.the-variants as C
-use Rattle.command.specs.Commands.{kindOf, offered, headWords, sizeOf, headGood, operandsGood, turnOn}
-use Rattle.command.specs.Words.{headOf, encode, decoded, kindFor, turnWords}
-use Rattle.command.specs.Offered.{commandIn, commands}
+use Rattle.command.specs.Commands.{Known, Entry, entry, sizeBy, kindOf, kindIn, commands}
 
--- ---- words and commands
+-- ---- a row looks at its head's words
 
--- a command's words give it back, whatever follows its head
-pub read-back : (c : Command) (rest : List ℕ) → commandIn (encode c rest) ≡ c
-unfolding kindOf headOf encode decoded
-read-back (C.Update r) rest = refl
-read-back (C.RectFill colour r) rest = refl
-read-back (C.RectCopy from r) rest = refl
-read-back (C.RectRopFill colour r rop) rest = refl
-read-back (C.RectRopCopy from r rop) rest = refl
-read-back (C.DefineAlphaCursor s) rest = refl
-read-back (C.UpdateVerbose r reason) rest = refl
-read-back (C.Fence number) rest = refl
-read-back (C.Escape namespace bytes) rest = refl
+-- what a row says of words
+pub record Alike (e : Entry) (w v : List ℕ) : Type 0 where
+  pub behind : e .behind w ≡ e .behind v
+  pub headGood : e .headGood w ≡ e .headGood v
+  pub good : (s : Known) → e .good s w ≡ e .good s v
+  pub action : e .action w ≡ e .action v
 
-pub head-length : (c : Command) → length (headOf c) ≡ headWords (kindFor c)
-unfolding headOf headWords
-head-length (C.Update r) = refl
-head-length (C.RectFill colour r) = refl
-head-length (C.RectCopy from r) = refl
-head-length (C.RectRopFill colour r rop) = refl
-head-length (C.RectRopCopy from r rop) = refl
-head-length (C.DefineAlphaCursor s) = refl
-head-length (C.UpdateVerbose r reason) = refl
-head-length (C.Fence number) = refl
-head-length (C.Escape namespace bytes) = refl
+-- words that begin alike, behind the number
+abbrev pub Begin : ℕ → List ℕ → List ℕ → Type 0
+Begin n w v = (i : ℕ) → 1 ≤ i → i < n → getD w i 0 ≡ getD v i 0
 
--- ---- sizes
+pub alike : (k : Kind) (w v : List ℕ) → Begin (entry k .head) w v → Alike (entry k) w v
+unfolding entry
+alike Update w v b = record { behind = refl; headGood = refl; good = λ s. refl; action = rw (b 1 (omega arith) (omega arith), b 2 (omega arith) (omega arith), b 3 (omega arith) (omega arith), b 4 (omega arith) (omega arith)) }
+alike RectFill w v b = record { behind = refl; headGood = refl; good = λ s. refl; action = rw (b 1 (omega arith) (omega arith), b 2 (omega arith) (omega arith), b 3 (omega arith) (omega arith), b 4 (omega arith) (omega arith), b 5 (omega arith) (omega arith)) }
+alike RectCopy w v b = record { behind = refl; headGood = refl; good = λ s. refl; action = rw (b 1 (omega arith) (omega arith), b 2 (omega arith) (omega arith), b 3 (omega arith) (omega arith), b 4 (omega arith) (omega arith), b 5 (omega arith) (omega arith), b 6 (omega arith) (omega arith)) }
+alike RectRopFill w v b = record { behind = refl; headGood = refl; good = λ s. rw (b 6 (omega arith) (omega arith)); action = rw (b 1 (omega arith) (omega arith), b 2 (omega arith) (omega arith), b 3 (omega arith) (omega arith), b 4 (omega arith) (omega arith), b 5 (omega arith) (omega arith), b 6 (omega arith) (omega arith)) }
+alike RectRopCopy w v b = record { behind = refl; headGood = refl; good = λ s. rw (b 7 (omega arith) (omega arith)); action = rw (b 1 (omega arith) (omega arith), b 2 (omega arith) (omega arith), b 3 (omega arith) (omega arith), b 4 (omega arith) (omega arith), b 5 (omega arith) (omega arith), b 6 (omega arith) (omega arith), b 7 (omega arith) (omega arith)) }
+alike DefineAlphaCursor w v b = record {
+  behind = rw (b 4 (omega arith) (omega arith), b 5 (omega arith) (omega arith));
+  headGood = rw (b 1 (omega arith) (omega arith), b 2 (omega arith) (omega arith), b 3 (omega arith) (omega arith), b 4 (omega arith) (omega arith), b 5 (omega arith) (omega arith));
+  good = λ s. refl;
+  action = rw (b 1 (omega arith) (omega arith), b 2 (omega arith) (omega arith), b 3 (omega arith) (omega arith), b 4 (omega arith) (omega arith), b 5 (omega arith) (omega arith));
+}
+alike UpdateVerbose w v b = record { behind = refl; headGood = refl; good = λ s. refl; action = rw (b 1 (omega arith) (omega arith), b 2 (omega arith) (omega arith), b 3 (omega arith) (omega arith), b 4 (omega arith) (omega arith)) }
+alike Fence w v b = record { behind = refl; headGood = refl; good = λ s. refl; action = rw (b 1 (omega arith) (omega arith)) }
+alike Escape w v b = record { behind = rw (b 2 (omega arith) (omega arith)); headGood = refl; good = λ s. refl; action = refl }
+alike Foreign w v b = record { behind = refl; headGood = refl; good = λ s. refl; action = refl }
 
-pub head-small : (k : Kind) → (1 ≤ headWords k) × (headWords k ≤ 8)
-unfolding headWords
-head-small Update = (omega arith, omega arith)
-head-small RectFill = (omega arith, omega arith)
-head-small RectCopy = (omega arith, omega arith)
-head-small RectRopFill = (omega arith, omega arith)
-head-small RectRopCopy = (omega arith, omega arith)
-head-small DefineAlphaCursor = (omega arith, omega arith)
-head-small UpdateVerbose = (omega arith, omega arith)
-head-small Fence = (omega arith, omega arith)
-head-small Escape = (omega arith, omega arith)
-head-small Foreign = (omega arith, omega arith)
+pub head-some : (k : Kind) → (1 ≤ entry k .head) × (entry k .head ≤ 10)
+unfolding entry
+head-some Update = (omega arith, omega arith)
+head-some RectFill = (omega arith, omega arith)
+head-some RectCopy = (omega arith, omega arith)
+head-some RectRopFill = (omega arith, omega arith)
+head-some RectRopCopy = (omega arith, omega arith)
+head-some DefineAlphaCursor = (omega arith, omega arith)
+head-some UpdateVerbose = (omega arith, omega arith)
+head-some Fence = (omega arith, omega arith)
+head-some Escape = (omega arith, omega arith)
+head-some Foreign = (omega arith, omega arith)
 
--- a command is no shorter than its head
-pub size-head : (c : Command) → headWords (kindFor c) ≤ sizeOf c
-unfolding headWords sizeOf
-size-head (C.Update r) = omega arith
-size-head (C.RectFill colour r) = omega arith
-size-head (C.RectCopy from r) = omega arith
-size-head (C.RectRopFill colour r rop) = omega arith
-size-head (C.RectRopCopy from r rop) = omega arith
-size-head (C.DefineAlphaCursor s) = omega arith
-size-head (C.UpdateVerbose r reason) = omega arith
-size-head (C.Fence number) = omega arith
-size-head (C.Escape namespace bytes) = omega arith
+-- ---- the table by its rows
 
--- ---- the table keeps what the theorem asks
+module _ {S : Type 0} (knownOf : S → Known) (does : Action → List ℕ → S → S) where
+  -- "the theorem's laws": the ring carries every head, and a command has a word
+  pub command-laws : (cap : ℕ) → 10 ≤ cap → Laws cap (turnOf cap (commands knownOf does))
+  unfolding commands
+  command-laws cap h = laws-of cap (commands knownOf does) (record {
+    head-fits = λ x e. omega (arith, head-some (kindOf x) .1);
+    size-some = λ w. omega (arith, head-some (kindIn w) .0);
+  })
 
-pub command-laws : {S : Type 0} (does : Action → List ℕ → S → S) (cap : ℕ) → 8 ≤ cap → Laws cap (turnOf cap (commands does))
-unfolding commands
-command-laws does cap h = laws-of cap (commands does) (record {
-  head-fits = λ x e. omega (arith, head-small (kindOf x) .1);
-  size-some = λ w. omega (arith, size-head (commandIn w), head-small (kindFor (commandIn w)) .0);
-})
+  module _ (x : ℕ) (w : List ℕ) (first : getD w 0 0 ≡ x) where
+    abbrev row : Entry
+    row = entry (kindOf x)
 
--- ---- a turn of the table is the function's turn on the command in those words
+    -- the first n words are of the same kind
+    kind-take : (n : ℕ) → 1 ≤ n → kindIn (take n w) ≡ kindOf x
+    kind-take n h = ap kindOf (getD-take n w 0 0 (omega arith) ∙ first)
 
--- a command is read from its head's words alone
-module _ (n : ℕ) (w : List ℕ) where
-  word : (i : ℕ) → i < n → getD (take n w) i 0 ≡ getD w i 0
-  word i h = getD-take n w i 0 h
+    -- checks and length by a command's own words are those by all the words there
+    module _ (n : ℕ) (long : row .head ≤ n) where
+      own : Alike row (take n w) w
+      own = alike (kindOf x) (take n w) w (λ i g h. getD-take n w i 0 (omega arith))
 
-  pub decoded-take : (k : Kind) → headWords k ≤ n → decoded k (take n w) ≡ decoded k w
-  unfolding decoded headWords
-  decoded-take Update h = rw (word 1 (omega arith), word 2 (omega arith), word 3 (omega arith), word 4 (omega arith))
-  decoded-take RectFill h = rw (word 1 (omega arith), word 2 (omega arith), word 3 (omega arith), word 4 (omega arith), word 5 (omega arith))
-  decoded-take RectCopy h = rw (word 1 (omega arith), word 2 (omega arith), word 3 (omega arith), word 4 (omega arith), word 5 (omega arith), word 6 (omega arith))
-  decoded-take RectRopFill h = rw (word 1 (omega arith), word 2 (omega arith), word 3 (omega arith), word 4 (omega arith), word 5 (omega arith), word 6 (omega arith))
-  decoded-take RectRopCopy h = rw (word 1 (omega arith), word 2 (omega arith), word 3 (omega arith), word 4 (omega arith), word 5 (omega arith), word 6 (omega arith), word 7 (omega arith))
-  decoded-take DefineAlphaCursor h = rw (word 1 (omega arith), word 2 (omega arith), word 3 (omega arith), word 4 (omega arith), word 5 (omega arith))
-  decoded-take UpdateVerbose h = rw (word 1 (omega arith), word 2 (omega arith), word 3 (omega arith), word 4 (omega arith), word 5 (omega arith))
-  decoded-take Fence h = rw (word 1 (omega arith))
-  decoded-take Escape h = rw (word 1 (omega arith), word 2 (omega arith))
-  decoded-take Foreign h = refl
+      same-kind : kindIn (take n w) ≡ kindOf x
+      same-kind = kind-take n (omega (arith, head-some (kindOf x) .0))
 
--- what a turn of the function says, as straight execution's turn: an executed command's action is done with the command's own words
-abbrev pub asTurn : {S : Type 0} → (Action → List ℕ → S → S) → S → List ℕ → Turn → O.Turn S
-asTurn does s w (Ends e) = ends e
-asTurn does s w (Executes a n) = exec n (does a (take n w) s)
+    good-all : (s : S) → commands knownOf does .good s (take (sizeBy (kindOf x) w) w) ≡ row .good (knownOf s) w
+    unfolding commands
+    good-all s = rw (same-kind (sizeBy (kindOf x) w) (omega arith)) (own (sizeBy (kindOf x) w) (omega arith) .good (knownOf s))
 
-kind-decoded : (k : Kind) (w : List ℕ) → offered k ≡ true → kindFor (decoded k w) ≡ k
-unfolding decoded
-kind-decoded Update w e = refl
-kind-decoded RectFill w e = refl
-kind-decoded RectCopy w e = refl
-kind-decoded RectRopFill w e = refl
-kind-decoded RectRopCopy w e = refl
-kind-decoded DefineAlphaCursor w e = refl
-kind-decoded UpdateVerbose w e = refl
-kind-decoded Fence w e = refl
-kind-decoded Escape w e = refl
-kind-decoded Foreign w e = let z : _≡_ {A = ℕ} 0 1 = cc in absurd (omega arith)
+    effect-all : (s : S) → commands knownOf does .effect s (take (sizeBy (kindOf x) w) w) ≡ does (row .action w) (take (sizeBy (kindOf x) w) w) s
+    unfolding commands
+    effect-all s = rw (same-kind (sizeBy (kindOf x) w) (omega arith)) (ap (λ (a : Action). does a (take (sizeBy (kindOf x) w) w) s) (own (sizeBy (kindOf x) w) (omega arith) .action))
 
-command-take : (n x : ℕ) (w : List ℕ) → getD w 0 0 ≡ x → headWords (kindOf x) ≤ n → commandIn (take n w) ≡ decoded (kindOf x) w
-command-take n x w e h =
-    let first : getD (take n w) 0 0 ≡ x = word n w 0 (omega (arith, head-small (kindOf x) .0)) ∙ e in
-    rw first (decoded-take n w (kindOf x) h)
+    pub by-head : (commands knownOf does .headGood (headOf (commands knownOf does) x w) ≡ row .headGood w)
+    unfolding commands
+    by-head = rw (same-kind (row .head) (omega arith)) (own (row .head) (omega arith) .headGood)
 
-pub turn-is : {S : Type 0} (does : Action → List ℕ → S → S) (cap : ℕ) (s : S) (x : ℕ) (w : List ℕ) → getD w 0 0 ≡ x → offered (kindOf x) ≡ true
-    → headWords (kindOf x) ≤ length w → turnAt cap (commands does) s x w ≡ asTurn does s w (turnOn (decoded (kindOf x) w) (length w) cap)
-unfolding commands unless turnOn
-turn-is does cap s x w e on fits =
-    let c = decoded (kindOf x) w in
-    let in-head = command-take (headWords (kindOf x)) x w e (omega arith) in
-    let size : headWords (kindOf x) ≤ sizeOf c = rw (kind-decoded (kindOf x) w on) at (size-head c) in
-    let in-all = command-take (sizeOf c) x w e size in
-    rw (on, le-leb (headWords (kindOf x)) (length w) fits, in-head)
-    (by-bool (headGood c)
-    (λ good. by-bool (leb (sizeOf c) cap)
-    (λ carried. by-bool (leb (sizeOf c) (length w))
-    (λ there. by-bool (operandsGood c)
-    (λ well. rw (good, carried, there, in-all, well))
-    (λ bad. rw (good, carried, there, in-all, bad)))
-    (λ missing. rw (good, carried, missing)))
-    (λ long. rw (good, long)))
-    (λ bad. rw bad))
+    pub by-size : sizeOf (commands knownOf does) x w ≡ sizeBy (kindOf x) w
+    unfolding commands
+    by-size = rw (same-kind (row .head) (omega arith)) (ap (λ n. row .head + n) (own (row .head) (omega arith) .behind))
 
--- a turn on all the words that wait
-module _ {S : Type 0} (does : Action → List ℕ → S → S) (cap : ℕ) (s : S) where
-  turn-short : (x : ℕ) (w : List ℕ) → offered (kindOf x) ≡ true → leb (headWords (kindOf x)) (length w) ≡ false → turnAt cap (commands does) s x w ≡ ends Waiting
-  unfolding commands unless
-  turn-short x w on short = rw (on, short)
+    pub by-good : (s : S) → commands knownOf does .good s (allOf (commands knownOf does) x w) ≡ row .good (knownOf s) w
+    by-good s = rw by-size (good-all s)
 
-  turn-foreign : (x : ℕ) (w : List ℕ) → offered (kindOf x) ≡ false → turnAt cap (commands does) s x w ≡ ends (Fault NotOffered)
-  unfolding commands unless
-  turn-foreign x w off = rw off
-
-  pub turn-words : (w : List ℕ) → turnOf cap (commands does) s w ≡ asTurn does s w (turnWords cap w)
-  unfolding turnOf turnWords
-  turn-words [] = refl
-  turn-words (x ∷ w) =
-      by-bool (offered (kindOf x))
-      (λ on. by-bool (leb (headWords (kindOf x)) (length (x ∷ w)))
-      (λ fits. turn-is does cap s x (x ∷ w) refl on (leb-true _ _ fits) ∙ rw (on, fits))
-      (λ short. turn-short x (x ∷ w) on short ∙ rw (on, short)))
-      (λ off. turn-foreign x (x ∷ w) off ∙ rw off)
-
--- a turn on words of which there are some, by the first of them
-pub turn-first : (cap : ℕ) (w : List ℕ) → (length w ≡ 0 → ⊥)
-    → turnWords cap w
-    ≡ cond (offered (kindOf (getD w 0 0)))
-    (cond (leb (headWords (kindOf (getD w 0 0))) (length w)) (turnOn (decoded (kindOf (getD w 0 0)) w) (length w) cap) (Ends Waiting))
-    (Ends (Fault NotOffered))
-unfolding turnWords
-turn-first cap [] some = absurd (some refl)
-turn-first cap (x ∷ w) some = refl
-
-pub turn-none : (cap : ℕ) (w : List ℕ) → length w ≡ 0 → turnWords cap w ≡ Ends Drained
-unfolding turnWords
-turn-none cap [] none = refl
-turn-none cap (x ∷ w) none = let z : _≡_ {A = ℕ} 0 1 = cc in absurd (omega arith)
+    pub by-effect : (s : S) → commands knownOf does .effect s (allOf (commands knownOf does) x w) ≡ does (row .action w) (take (sizeBy (kindOf x) w) w) s
+    by-effect s = rw by-size (effect-all s)

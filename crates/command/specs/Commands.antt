@@ -1,113 +1,107 @@
--- Document 01's nine commands: "One command out of the ring", the table and the turn's checks.
+-- Document 01's table of commands, row by row: "One command out of the ring".
 use Prim.Native.Nat.{ℕ, _+_, _*_, _/_}
-use mathlib.Core.Bool.{Bool, true, false, cond, _&&_}
-use lib.Dec.{eqb, ltb, leb}
+use mathlib.Core.Bool.{Bool, true, false, cond}
+use mathlib.Core.List.{List, [], _∷_}
+use lib.Dec.{eqb, leb}
+use lib.ListN.{getD}
+use Rattle.geometry.specs.declared.Rect.{Rect}
+use Rattle.cursor.specs.declared.Shape.{Shape}
 use Rattle.cursor.specs.Plane.{shapeGood}
-use Rattle.order.specs.declared.Cause.the-variants.{BadOperand, TooLong}
-use Rattle.order.specs.declared.End.the-variants.{Waiting, Fault}
+use Rattle.order.specs.Table.{Table}
+use Rattle.command.specs.declared.Source.{Source}
 use Rattle.command.specs.declared.Kind.{Kind}
 use Rattle.command.specs.declared.Kind.the-variants.{Update, RectFill, RectCopy, RectRopFill, RectRopCopy, DefineAlphaCursor, UpdateVerbose, Fence, Escape, Foreign}
-use Rattle.command.specs.declared.Command.{Command}
-use Rattle.command.specs.declared.Command.the-variants as C
 use Rattle.command.specs.declared.Action.{Action}
 use Rattle.command.specs.declared.Action.the-variants as A
-use Rattle.command.specs.declared.Turn.{Turn}
-use Rattle.command.specs.declared.Turn.the-variants.{Ends, Executes}
 
--- The column "Command": 1 UPDATE, 2 RECT_FILL, 3 RECT_COPY, 13 RECT_ROP_FILL, 14 RECT_ROP_COPY, 22 DEFINE_ALPHA_CURSOR, 25 UPDATE_VERBOSE, 30 FENCE,
--- 33 ESCAPE; any other number is not offered.
+-- What the checks know of the machine: document 01's look at nothing of it.
+abbrev pub Known : Type 0
+Known = Unit {0}
+
+-- A row of the table. Of a command's words, word 0 is its number.
+pub record Entry : Type 0 where
+  -- the column "Command"
+  pub number : ℕ
+  pub offered : Bool
+  -- the column "Words": those of its head, and those behind it, by what the head says; a command of fixed length is all head
+  pub head : ℕ
+  pub behind : List ℕ → ℕ
+  -- the turn's checks: on the words of its head; on all its words and what is known of the machine
+  pub headGood : List ℕ → Bool
+  pub good : Known → List ℕ → Bool
+  -- the column "Arguments": what is executed
+  pub action : List ℕ → Action
+
+-- Arguments that stand together, from word i on: "x y w h", "sx sy", "id hotx hoty w h".
+abbrev pub rectAt : List ℕ → ℕ → Rect
+rectAt w i = record { x = getD w i 0; y = getD w (i + 1) 0; w = getD w (i + 2) 0; h = getD w (i + 3) 0 }
+
+abbrev pub sourceAt : List ℕ → ℕ → Source
+sourceAt w i = record { x = getD w i 0; y = getD w (i + 1) 0 }
+
+abbrev pub shapeAt : List ℕ → ℕ → Shape
+shapeAt w i = record { id = getD w i 0; hotx = getD w (i + 1) 0; hoty = getD w (i + 2) 0; w = getD w (i + 3) 0; h = getD w (i + 4) 0 }
+
+-- The raster operation of a plain fill or copy: it stores the source.
+abbrev pub plain : ℕ
+plain = 3
+
+-- a command of fixed length that is never refused
+abbrev pub fixed : ℕ → ℕ → (List ℕ → Action) → Entry
+fixed number words action = record { number = number; offered = true; head = words; behind = λ w. 0; headGood = λ w. true; good = λ s w. true; action = action }
+
+-- "Raster operation above 15: 11.": one whose word i is a raster operation
+abbrev pub operated : ℕ → ℕ → ℕ → (List ℕ → Action) → Entry
+operated number words i action = record { number = number; offered = true; head = words; behind = λ w. 0; headGood = λ w. true; good = λ s w. leb (getD w i 0) 15; action = action }
+
+-- one with data behind its head
+abbrev pub followed : ℕ → ℕ → (List ℕ → ℕ) → (List ℕ → Bool) → (List ℕ → Action) → Entry
+followed number words behind good action = record { number = number; offered = true; head = words; behind = behind; headGood = good; good = λ s w. true; action = action }
+
+-- The table. "Cursor: w and h 1 to 64, hotx < w, hoty < h, else 11." A plain fill or copy is operation 3; UPDATE_VERBOSE is "as 1, reason (no effect)";
+-- ESCAPE's "data (no effect)". Any other number is not offered: no row, and its one word is never looked at further.
+unfoldable pub entry : Kind → Entry
+entry Update = fixed 1 5 (λ w. A.Update (rectAt w 1))
+entry RectFill = fixed 2 6 (λ w. A.Fill (rectAt w 2) (getD w 1 0) plain)
+entry RectCopy = fixed 3 7 (λ w. A.Copy (sourceAt w 1) (rectAt w 3) plain)
+entry RectRopFill = operated 13 7 6 (λ w. A.Fill (rectAt w 2) (getD w 1 0) (getD w 6 0))
+entry RectRopCopy = operated 14 8 7 (λ w. A.Copy (sourceAt w 1) (rectAt w 3) (getD w 7 0))
+entry DefineAlphaCursor = followed 22 6 (λ w. shapeAt w 1 .w * shapeAt w 1 .h) (λ w. shapeGood (shapeAt w 1)) (λ w. A.Define (shapeAt w 1))
+entry UpdateVerbose = fixed 25 6 (λ w. A.Update (rectAt w 1))
+entry Fence = fixed 30 2 (λ w. A.Fence (getD w 1 0))
+entry Escape = followed 33 3 (λ w. (getD w 2 0 + 3) / 4) (λ w. true) (λ w. A.Nothing)
+entry Foreign = record { number = 0; offered = false; head = 1; behind = λ w. 0; headGood = λ w. true; good = λ s w. true; action = λ w. A.Nothing }
+
+-- "head 6, then w·h", "head 3, then ceil(size/4)": all words of a command that begins so.
+abbrev pub sizeBy : Kind → List ℕ → ℕ
+sizeBy k w = entry k .head + entry k .behind w
+
+-- The rows, in document 01's order.
+abbrev pub kinds : List Kind
+kinds = Update ∷ RectFill ∷ RectCopy ∷ RectRopFill ∷ RectRopCopy ∷ DefineAlphaCursor ∷ UpdateVerbose ∷ Fence ∷ Escape ∷ []
+
+-- The row that has a number.
+abbrev pub rowWith : ℕ → List Kind → Kind
+rowWith number [] = Foreign
+rowWith number (k ∷ ks) = cond (eqb number (entry k .number)) k (rowWith number ks)
+
 unfoldable pub kindOf : ℕ → Kind
-kindOf number =
-    cond (eqb number 1) Update
-    (cond (eqb number 2) RectFill
-    (cond (eqb number 3) RectCopy
-    (cond (eqb number 13) RectRopFill
-    (cond (eqb number 14) RectRopCopy
-    (cond (eqb number 22) DefineAlphaCursor
-    (cond (eqb number 25) UpdateVerbose
-    (cond (eqb number 30) Fence
-    (cond (eqb number 33) Escape Foreign))))))))
+unfolding entry
+kindOf number = rowWith number kinds
 
-abbrev pub offered : Kind → Bool
-offered Update = true
-offered RectFill = true
-offered RectCopy = true
-offered RectRopFill = true
-offered RectRopCopy = true
-offered DefineAlphaCursor = true
-offered UpdateVerbose = true
-offered Fence = true
-offered Escape = true
-offered Foreign = false
+-- The kind of the command that words begin with.
+abbrev pub kindIn : List ℕ → Kind
+kindIn w = kindOf (getD w 0 0)
 
--- "Words": of a command of fixed length all of them, of 22 "head 6", of 33 "head 3". A foreign number is one word, and never gets so far.
-unfoldable pub headWords : Kind → ℕ
-headWords Update = 5
-headWords RectFill = 6
-headWords RectCopy = 7
-headWords RectRopFill = 7
-headWords RectRopCopy = 8
-headWords DefineAlphaCursor = 6
-headWords UpdateVerbose = 6
-headWords Fence = 2
-headWords Escape = 3
-headWords Foreign = 1
-
--- "head 6, then w·h", "head 3, then ceil(size/4)"
-unfoldable pub sizeOf : Command → ℕ
-sizeOf (C.Update r) = 5
-sizeOf (C.RectFill colour r) = 6
-sizeOf (C.RectCopy from r) = 7
-sizeOf (C.RectRopFill colour r rop) = 7
-sizeOf (C.RectRopCopy from r rop) = 8
-sizeOf (C.DefineAlphaCursor s) = 6 + s .w * s .h
-sizeOf (C.UpdateVerbose r reason) = 6
-sizeOf (C.Fence number) = 2
-sizeOf (C.Escape namespace bytes) = 3 + (bytes + 3) / 4
-
--- "Cursor head bad: 11."
-unfoldable pub headGood : Command → Bool
-headGood (C.Update r) = true
-headGood (C.RectFill colour r) = true
-headGood (C.RectCopy from r) = true
-headGood (C.RectRopFill colour r rop) = true
-headGood (C.RectRopCopy from r rop) = true
-headGood (C.DefineAlphaCursor s) = shapeGood s
-headGood (C.UpdateVerbose r reason) = true
-headGood (C.Fence number) = true
-headGood (C.Escape namespace bytes) = true
-
--- "Raster operation above 15: 11."
-unfoldable pub operandsGood : Command → Bool
-operandsGood (C.Update r) = true
-operandsGood (C.RectFill colour r) = true
-operandsGood (C.RectCopy from r) = true
-operandsGood (C.RectRopFill colour r rop) = leb rop 15
-operandsGood (C.RectRopCopy from r rop) = leb rop 15
-operandsGood (C.DefineAlphaCursor s) = true
-operandsGood (C.UpdateVerbose r reason) = true
-operandsGood (C.Fence number) = true
-operandsGood (C.Escape namespace bytes) = true
-
--- What is executed: a plain fill or copy is operation 3; UPDATE_VERBOSE "as 1, reason (no effect)"; ESCAPE's "data (no effect)".
-unfoldable pub actionOf : Command → Action
-actionOf (C.Update r) = A.Update r
-actionOf (C.RectFill colour r) = A.Fill r colour 3
-actionOf (C.RectCopy from r) = A.Copy from r 3
-actionOf (C.RectRopFill colour r rop) = A.Fill r colour rop
-actionOf (C.RectRopCopy from r rop) = A.Copy from r rop
-actionOf (C.DefineAlphaCursor s) = A.Define s
-actionOf (C.UpdateVerbose r reason) = A.Update r
-actionOf (C.Fence number) = A.Fence number
-actionOf (C.Escape namespace bytes) = A.Nothing
-
--- "Cursor head bad: 11. Length above what the ring carries: 12. Words missing: 1. Raster operation above 15: 11. Then it is executed"
-unfoldable pub turnOn : Command → ℕ → ℕ → Turn
-turnOn c waiting carried =
-    cond (headGood c)
-    (cond (leb (sizeOf c) carried)
-    (cond (leb (sizeOf c) waiting)
-    (cond (operandsGood c) (Executes (actionOf c) (sizeOf c)) (Ends (Fault BadOperand)))
-    (Ends Waiting))
-    (Ends (Fault TooLong)))
-    (Ends (Fault BadOperand))
+-- The rows as the table that straight execution goes by. What the checks know of a machine and what an action does to it are parameters: an action is
+-- done with the command's own words.
+module _ {S : Type 0} (knownOf : S → Known) (does : Action → List ℕ → S → S) where
+  unfoldable pub commands : Table S
+  commands = record {
+    offered = λ x. entry (kindOf x) .offered;
+    head = λ x. entry (kindOf x) .head;
+    headGood = λ h. entry (kindIn h) .headGood h;
+    size = λ h. sizeBy (kindIn h) h;
+    good = λ s w. entry (kindIn w) .good (knownOf s) w;
+    effect = λ s w. does (entry (kindIn w) .action w) w s;
+  }

@@ -1,4 +1,2 @@
 pub mod Commands
-pub mod Words
-pub mod Offered
-pub mod Heads
+pub mod Findings

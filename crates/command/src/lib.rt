@@ -1,12 +1,15 @@
-// Document 01's nine commands: numbers, arguments, lengths, checks, and what a turn finds. Needs no ring, device or screen.
+// Document 01's nine commands: their numbers, and what a turn finds in words that begin with one. Needs no ring, device or screen.
 use cursor::Shape;
 use geometry::Rect;
 use order::Cause;
 use order::End;
 ghost use mathlib.Core.Path.{_≡_};
-ghost use Rattle.command.specs.declared.Command.the-variants.{DefineAlphaCursor, Escape};
-ghost use Rattle.command.specs.Commands.{kindOf};
-ghost use Rattle.command.specs.Heads.{rectFirst, rectSecond, rectThird, updateIn, fillIn, copyIn, shapeIn, fixedTurn, onHead, turnHead, plainSize};
+ghost use Prim.Native.Nat.{_+_, _≤_};
+ghost use lib.ListN.{length, getD};
+ghost use Rattle.command.specs.Commands.{kindOf, kindIn, rectAt, sourceAt, shapeAt};
+ghost use Rattle.command.specs.declared.Kind.the-variants.{Update, RectFill, RectCopy, RectRopFill, RectRopCopy, UpdateVerbose, Fence};
+ghost use Rattle.command.specs.declared.Data.the-variants.{Cursor, Escape};
+ghost use Rattle.command.specs.Findings.{findsIn, asTurn, begun, stepIn};
 
 // The commands that are offered, and every other number.
 pub enum Kind {
@@ -28,19 +31,6 @@ pub struct Source {
     pub y: u32,
 }
 
-// A command with its arguments, as its head's words have them: what definitions and contracts speak of. A cursor's pixels and an escape's data stay in the ring.
-pub enum Command {
-    Update(Rect),
-    RectFill(u32, Rect),
-    RectCopy(Source, Rect),
-    RectRopFill(u32, Rect, u32),
-    RectRopCopy(Source, Rect, u32),
-    DefineAlphaCursor(Shape),
-    UpdateVerbose(Rect, u32),
-    Fence(u32),
-    Escape(u32, u32),
-}
-
 // What executing a command does. A plain fill or copy is raster operation 3, and a verbose update an update.
 pub enum Action {
     Update(Rect),
@@ -51,22 +41,24 @@ pub enum Action {
     Nothing,
 }
 
-// What a turn finds: how it ends, or what it executes and the number of the command's words.
-pub enum Turn {
-    Ends(End),
-    Executes(Action, u64),
+// The commands with data behind their head.
+pub enum Data {
+    Cursor,
+    Escape,
 }
 
-// The first eight words that wait, 0 where fewer wait: a command's number and what the longest head has.
-pub struct Head {
-    pub number: u32,
-    pub w1: u32,
-    pub w2: u32,
-    pub w3: u32,
-    pub w4: u32,
-    pub w5: u32,
-    pub w6: u32,
-    pub w7: u32,
+// What the front of a row of words says: a command and the number of its words; too few words; a fault; a command with data behind its head.
+pub enum Step {
+    Does(Action, usize),
+    Short,
+    Faults(Cause),
+    Long(Data),
+}
+
+// What a turn finds: how it ends, or what it executes and the number of the command's words.
+pub enum Finding {
+    Ends(End),
+    Executes(Action, u64),
 }
 
 // The kind of command that a number names.
@@ -88,169 +80,206 @@ pub fn kind_of(number: u32) -> Kind
     }
 }
 
-// ---- what a turn finds, by a command's kind and the words of its head
+// ---- a row of words
 
-// The rectangle that follows a head's number.
-// Rules out: width and height swapped; a rectangle that begins at the number.
-pub fn rect_first(h: Head) -> Rect
-    ensures { λ r. ⌜ r ≡ rectFirst h ⌝ }
+// Four words from word k on, as a rectangle.
+fn rect_at(row: &[u32], k: usize) -> Rect
+    requires { ⌜ k + 4 ≤ length (now row) ⌝ }
+    ensures { λ r. ⌜ r ≡ rectAt (now (row .entry)) k ⌝ }
 {
     Rect {
-        x: h.w1,
-        y: h.w2,
-        w: h.w3,
-        h: h.w4,
+        x: row[k],
+        y: row[k + 1],
+        w: row[k + 2],
+        h: row[k + 3],
     }
 }
 
-// The rectangle behind one word, a fill's colour.
-// Rules out: the colour taken for x.
-pub fn rect_second(h: Head) -> Rect
-    ensures { λ r. ⌜ r ≡ rectSecond h ⌝ }
+fn source_at(row: &[u32], k: usize) -> Source
+    requires { ⌜ k + 2 ≤ length (now row) ⌝ }
+    ensures { λ r. ⌜ r ≡ sourceAt (now (row .entry)) k ⌝ }
 {
-    Rect {
-        x: h.w2,
-        y: h.w3,
-        w: h.w4,
-        h: h.w5,
+    Source {
+        x: row[k],
+        y: row[k + 1],
     }
 }
 
-// The rectangle behind two words, a copy's source.
-// Rules out: the source taken for the destination.
-pub fn rect_third(h: Head) -> Rect
-    ensures { λ r. ⌜ r ≡ rectThird h ⌝ }
+fn update_in(row: &[u32]) -> Step
+    requires { ⌜ kindIn (now row) ≡ Update ⌝ }
+    ensures { λ r. ⌜ r ≡ stepIn tt (now (row .entry)) ⌝ }
 {
-    Rect {
-        x: h.w3,
-        y: h.w4,
-        w: h.w5,
-        h: h.w6,
+    if row.len() < 5 {
+        return Step::Short;
+    }
+    Step::Does(Action::Update(rect_at(row, 1)), 5)
+}
+
+fn verbose_in(row: &[u32]) -> Step
+    requires { ⌜ kindIn (now row) ≡ UpdateVerbose ⌝ }
+    ensures { λ r. ⌜ r ≡ stepIn tt (now (row .entry)) ⌝ }
+{
+    if row.len() < 6 {
+        return Step::Short;
+    }
+    Step::Does(Action::Update(rect_at(row, 1)), 6)
+}
+
+fn fill_in(row: &[u32]) -> Step
+    requires { ⌜ kindIn (now row) ≡ RectFill ⌝ }
+    ensures { λ r. ⌜ r ≡ stepIn tt (now (row .entry)) ⌝ }
+{
+    if row.len() < 6 {
+        return Step::Short;
+    }
+    Step::Does(Action::Fill(rect_at(row, 2), row[1], 3), 6)
+}
+
+fn copy_in(row: &[u32]) -> Step
+    requires { ⌜ kindIn (now row) ≡ RectCopy ⌝ }
+    ensures { λ r. ⌜ r ≡ stepIn tt (now (row .entry)) ⌝ }
+{
+    if row.len() < 7 {
+        return Step::Short;
+    }
+    Step::Does(Action::Copy(source_at(row, 1), rect_at(row, 3), 3), 7)
+}
+
+fn rop_fill_in(row: &[u32]) -> Step
+    requires { ⌜ kindIn (now row) ≡ RectRopFill ⌝ }
+    ensures { λ r. ⌜ r ≡ stepIn tt (now (row .entry)) ⌝ }
+{
+    if row.len() < 7 {
+        return Step::Short;
+    }
+    let rop = row[6];
+    if 15 < rop {
+        return Step::Faults(Cause::BadOperand);
+    }
+    Step::Does(Action::Fill(rect_at(row, 2), row[1], rop), 7)
+}
+
+fn rop_copy_in(row: &[u32]) -> Step
+    requires { ⌜ kindIn (now row) ≡ RectRopCopy ⌝ }
+    ensures { λ r. ⌜ r ≡ stepIn tt (now (row .entry)) ⌝ }
+{
+    if row.len() < 8 {
+        return Step::Short;
+    }
+    let rop = row[7];
+    if 15 < rop {
+        return Step::Faults(Cause::BadOperand);
+    }
+    Step::Does(Action::Copy(source_at(row, 1), rect_at(row, 3), rop), 8)
+}
+
+fn fence_in(row: &[u32]) -> Step
+    requires { ⌜ kindIn (now row) ≡ Fence ⌝ }
+    ensures { λ r. ⌜ r ≡ stepIn tt (now (row .entry)) ⌝ }
+{
+    if row.len() < 2 {
+        return Step::Short;
+    }
+    Step::Does(Action::Fence(row[1]), 2)
+}
+
+// The one dispatch: what the front of a row of words says. Only the words of the command's own head are read.
+// Rules out: a raster operation judged before all words are there; a foreign number that waits; a plain copy by another operation than 3.
+pub fn step_in(row: &[u32]) -> Step
+    ensures { λ r. ⌜ r ≡ stepIn tt (now (row .entry)) ⌝ }
+{
+    if row.len() == 0 {
+        return Step::Short;
+    }
+    let kind = kind_of(row[0]);
+    match kind {
+        Kind::Update => update_in(row),
+        Kind::RectFill => fill_in(row),
+        Kind::RectCopy => copy_in(row),
+        Kind::RectRopFill => rop_fill_in(row),
+        Kind::RectRopCopy => rop_copy_in(row),
+        Kind::DefineAlphaCursor => Step::Long(Data::Cursor),
+        Kind::UpdateVerbose => verbose_in(row),
+        Kind::Fence => fence_in(row),
+        Kind::Escape => Step::Long(Data::Escape),
+        Kind::Foreign => Step::Faults(Cause::NotOffered),
     }
 }
 
-fn update_in(h: Head) -> Action
-    ensures { λ r. ⌜ r ≡ updateIn h ⌝ }
+// ---- a command with data behind its head
+
+// Word i of a head, or 0 where it has fewer.
+fn word_of(head: &[u32], i: usize) -> u32
+    ensures { λ r. ⌜ r ≡ getD (now (head .entry)) i 0 ⌝ }
 {
-    let area = rect_first(h);
-    Action::Update(area)
+    if i < head.len() {
+        return head[i];
+    }
+    0
 }
 
-fn fill_in(h: Head, rop: u32) -> Action
-    ensures { λ r. ⌜ r ≡ fillIn h rop ⌝ }
-{
-    let area = rect_second(h);
-    Action::Fill(area, h.w1, rop)
-}
-
-fn copy_in(h: Head, rop: u32) -> Action
-    ensures { λ r. ⌜ r ≡ copyIn h rop ⌝ }
-{
-    let from = Source { x: h.w1, y: h.w2 };
-    let area = rect_third(h);
-    Action::Copy(from, area, rop)
-}
-
-fn shape_in(h: Head) -> Shape
-    ensures { λ r. ⌜ r ≡ shapeIn h ⌝ }
+fn shape_in(head: &[u32]) -> Shape
+    ensures { λ r. ⌜ r ≡ shapeAt (now (head .entry)) 1 ⌝ }
 {
     Shape {
-        id: h.w1,
-        hotx: h.w2,
-        hoty: h.w3,
-        w: h.w4,
-        h: h.w5,
+        id: word_of(head, 1),
+        hotx: word_of(head, 2),
+        hoty: word_of(head, 3),
+        w: word_of(head, 4),
+        h: word_of(head, 5),
     }
 }
 
-// A command of fixed size, with the raster operation that it names. One function for each kind: a turn then has its tests at constants.
-fn turn_fixed(action: Action, rop: u32, size: u64, n: u64, carries: u64) -> Turn
-    ensures { λ r. ⌜ r ≡ fixedTurn action rop size n carries ⌝ }
-{
-    if n < size {
-        return Turn::Ends(End::Waiting);
-    }
-    if carries < size {
-        return Turn::Ends(End::Fault(Cause::TooLong));
-    }
-    if 15 < rop {
-        return Turn::Ends(End::Fault(Cause::BadOperand));
-    }
-    Turn::Executes(action, size)
-}
-
-fn turn_cursor(shape: Shape, n: u64, carries: u64) -> Turn
-    ensures { λ r. ⌜ r ≡ onHead 6 (DefineAlphaCursor shape) n carries ⌝ }
+fn cursor_turn(head: &[u32], n: u64, carries: u64) -> Finding
+    requires { ⌜ 1 ≤ n ⌝ }
+    ensures { λ r. ⌜ asTurn r ≡ findsIn tt carries (begun Cursor (now (head .entry)) n) ⌝ }
 {
     if n < 6 {
-        return Turn::Ends(End::Waiting);
+        return Finding::Ends(End::Waiting);
     }
+    let shape = shape_in(head);
     let good = cursor::shape_good(shape);
     if !good {
-        return Turn::Ends(End::Fault(Cause::BadOperand));
+        return Finding::Ends(End::Fault(Cause::BadOperand));
     }
     let size = 6 + shape.w as u64 * shape.h as u64;
     if carries < size {
-        return Turn::Ends(End::Fault(Cause::TooLong));
+        return Finding::Ends(End::Fault(Cause::TooLong));
     }
     if n < size {
-        return Turn::Ends(End::Waiting);
+        return Finding::Ends(End::Waiting);
     }
-    Turn::Executes(Action::Define(shape), size)
+    Finding::Executes(Action::Define(shape), size)
 }
 
-fn turn_escape(space: u32, bytes: u32, n: u64, carries: u64) -> Turn
-    ensures { λ r. ⌜ r ≡ onHead 3 (Escape space bytes) n carries ⌝ }
+fn escape_turn(head: &[u32], n: u64, carries: u64) -> Finding
+    requires { ⌜ 1 ≤ n ⌝ }
+    ensures { λ r. ⌜ asTurn r ≡ findsIn tt carries (begun Escape (now (head .entry)) n) ⌝ }
 {
     if n < 3 {
-        return Turn::Ends(End::Waiting);
+        return Finding::Ends(End::Waiting);
     }
+    let bytes = word_of(head, 2);
     let size = 3 + (bytes as u64 + 3) / 4;
     if carries < size {
-        return Turn::Ends(End::Fault(Cause::TooLong));
+        return Finding::Ends(End::Fault(Cause::TooLong));
     }
     if n < size {
-        return Turn::Ends(End::Waiting);
+        return Finding::Ends(End::Waiting);
     }
-    Turn::Executes(Action::Nothing, size)
+    Finding::Executes(Action::Nothing, size)
 }
 
-// A turn where words wait, by the first one's kind: n of them wait, and the ring carries so many.
-// Rules out: waiting for ever on a command longer than the ring; a raster operation judged before all words are there; a bad cursor that waits for its pixels.
-pub fn turn_in(kind: Kind, h: Head, n: u64, carries: u64) -> Turn
-    ensures { λ r. ⌜ r ≡ turnHead kind h n carries ⌝ }
+// What a turn finds in n words that begin with a head of a command with such data. The ring carries so many words.
+// Rules out: waiting for ever on a command longer than the ring; a bad cursor that waits for its pixels.
+pub fn data_turn(tail: Data, head: &[u32], n: u64, carries: u64) -> Finding
+    ensures { λ r. ⌜ asTurn r ≡ findsIn tt carries (begun tail (now (head .entry)) n) ⌝ }
 {
-    match kind {
-        Kind::Update => turn_fixed(update_in(h), 3, 5, n, carries),
-        Kind::RectFill => turn_fixed(fill_in(h, 3), 3, 6, n, carries),
-        Kind::RectCopy => turn_fixed(copy_in(h, 3), 3, 7, n, carries),
-        Kind::RectRopFill => turn_fixed(fill_in(h, h.w6), h.w6, 7, n, carries),
-        Kind::RectRopCopy => turn_fixed(copy_in(h, h.w7), h.w7, 8, n, carries),
-        Kind::DefineAlphaCursor => turn_cursor(shape_in(h), n, carries),
-        Kind::UpdateVerbose => turn_fixed(update_in(h), 3, 6, n, carries),
-        Kind::Fence => turn_fixed(Action::Fence(h.w1), 3, 2, n, carries),
-        Kind::Escape => turn_escape(h.w1, h.w2, n, carries),
-        Kind::Foreign => Turn::Ends(End::Fault(Cause::NotOffered)),
+    if n == 0 {
+        return Finding::Ends(End::Drained);
     }
-}
-
-// ---- plain commands
-
-// The words of a plain command: an update, a fill or copy that names no raster operation, a fence. 0 for any other.
-// Rules out: a command that can be refused for its operands taken for a plain one.
-pub fn plain_size(kind: Kind) -> usize
-    ensures { λ r. ⌜ r ≡ plainSize kind ⌝ }
-{
-    match kind {
-        Kind::Update => 5,
-        Kind::RectFill => 6,
-        Kind::RectCopy => 7,
-        Kind::RectRopFill => 0,
-        Kind::RectRopCopy => 0,
-        Kind::DefineAlphaCursor => 0,
-        Kind::UpdateVerbose => 6,
-        Kind::Fence => 2,
-        Kind::Escape => 0,
-        Kind::Foreign => 0,
+    match tail {
+        Data::Cursor => cursor_turn(head, n, carries),
+        Data::Escape => escape_turn(head, n, carries),
     }
 }

@@ -7,7 +7,8 @@ use libc::STDOUT_FILENO;
 ghost use Prim.Native.Nat.{_≤_};
 ghost use mathlib.Core.Path.{_≡_};
 ghost use lib.ListN.{length, take};
-ghost use Rattle.console_session.specs.Session.{stateOf, fedAll, flushed, Within};
+ghost use Rattle.device_run.specs.Run.{lentBefore, lentAfter};
+ghost use Rattle.console_session.specs.Session.{stateBefore, stateAfter, fedAll, flushed, Within, HasRoom};
 
 // A session, the bytes that were read for it, and whether there may be more.
 struct Step {
@@ -50,8 +51,9 @@ fn turn(
     out: &mut [u8],
 ) -> Step
     requires { ⌜ Within s (length (now buffer)) (length (now line)) (length (now out)) ⌝ }
-    ensures { λ r. ⌜ stateOf (r .session) (now (line .exit)) (now (ring .exit)) (now (framebuffer .exit)) (now (screen .exit)) (now (cursor .exit)) (now (out .exit)) ≡ flushed (fedAll (stateOf s (now (line .entry)) (now (ring .entry)) (now (framebuffer .entry)) (now (screen .entry)) (now (cursor .entry)) (now (out .entry))) (take (r .read) (now (buffer .exit)))) ⌝ }
-    ensures { λ r. ⌜ Within (r .session) (length (now (buffer .entry))) (length (now (line .entry))) (length (now (out .entry))) ⌝ }
+    ensures { λ r. ⌜ stateAfter (r .session) line (lentAfter ring framebuffer screen cursor) out
+        ≡ flushed (fedAll (stateBefore s line (lentBefore ring framebuffer screen cursor) out) (take (r .read) (now (buffer .exit)))) ⌝ }
+    ensures { λ r. ⌜ HasRoom (r .session) (length (now (buffer .entry))) line out ⌝ }
 {
     let n = fill(buffer);
     let fed = console_session::feed(
@@ -86,7 +88,7 @@ fn serve(
     out: &mut [u8],
 ) -> Session
     requires { ⌜ Within s (length (now buffer)) (length (now line)) (length (now out)) ⌝ }
-    ensures { λ r. ⌜ Within r (length (now (buffer .entry))) (length (now (line .entry))) (length (now (out .entry))) ⌝ }
+    ensures { λ r. ⌜ HasRoom r (length (now (buffer .entry))) line out ⌝ }
 {
     let mut session = s;
     let mut turns = u64::MAX;

@@ -7,6 +7,7 @@ use lib.Dec.{eqb}
 use Rattle.ring.specs.Append.{Appended}
 use Rattle.device.specs.declared.Device.{Device}
 use Rattle.register_write.specs.Answers.{Outcome}
+use Rattle.device_run.specs.Run.{Lent}
 use Rattle.console_answers.specs.declared.Answer.{Answer}
 use Rattle.console_answers.specs.declared.Answer.the-variants.{Written, Full, Nothing}
 use Rattle.console_session.specs.declared.Performed.{Performed as Done}
@@ -15,9 +16,8 @@ use Rattle.console_session.specs.declared.Start.{Start}
 use Rattle.console_session.specs.declared.Start.the-variants.{Ready}
 use Rattle.console_session.specs.Console.{Performed, consoleOf}
 
-abbrev pub performedOf : Done → List ℕ → List ℕ → List ℕ → List ℕ → Performed
-performedOf r ring framebuffer screen cursor =
-    record { console = consoleOf (r .device) ring framebuffer screen cursor; answer = r .answer }
+abbrev pub performedOf : Done → Lent → Performed
+performedOf r l = record { console = consoleOf (r .device) l; answer = r .answer }
 
 -- The device stays.
 abbrev pub keepingOf : Device → Answer → Done

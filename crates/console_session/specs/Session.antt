@@ -5,9 +5,11 @@ use mathlib.Core.Bool.{Bool, cond, _&&_}
 use mathlib.Core.List.{List, [], _∷_, _++_}
 use lib.Dec.{eqb, ltb, leb}
 use lib.ListN.{length, take}
+use denote.Ref.{now}
 use Rattle.console_lines.specs.Lines.{requestOf}
 use Rattle.console_answers.specs.Text.{textOf}
 use Rattle.device.specs.declared.Device.{Device}
+use Rattle.device_run.specs.Run.{Lent, Slice}
 use Rattle.console_session.specs.declared.Session.{Session}
 use Rattle.console_session.specs.Console.{Console, Performed, consoleOf, performed, start}
 
@@ -58,12 +60,15 @@ joined (chunk ∷ chunks) = chunk ++ joined chunks
 
 -- ---- what the code keeps: a session, the lent memories, a line of 32 bytes and a buffer for the text
 
-abbrev pub stateOf : Session → List ℕ → List ℕ → List ℕ → List ℕ → List ℕ → List ℕ → State
-stateOf s line ring framebuffer screen cursor out = record {
-  console = consoleOf (s .device) ring framebuffer screen cursor;
-  held = take (s .held) line;
-  printed = take (s .printed) out;
-}
+abbrev pub stateOf : Session → List ℕ → Lent → List ℕ → State
+stateOf s line l out = record { console = consoleOf (s .device) l; held = take (s .held) line; printed = take (s .printed) out }
+
+-- The same at a call's entry, and at its exit.
+abbrev pub stateBefore : Session → Slice → Lent → Slice → State
+stateBefore s line l out = stateOf s (now (line .entry)) l (now (out .entry))
+
+abbrev pub stateAfter : Session → Slice → Lent → Slice → State
+stateAfter s line l out = stateOf s (now (line .exit)) l (now (out .exit))
 
 -- The line has 32 bytes, and out has room for the answers to n lines, each of at most 26 bytes.
 unfoldable pub fits : Session → ℕ → ℕ → ℕ → Bool
@@ -74,6 +79,14 @@ pub record Within (s : Session) (n line out : ℕ) : Type 0 where
   pub whole : line ≡ 32
   pub held : s .held ≤ 32
   pub room : s .printed + 26 * n ≤ out
+
+-- The same of a call's line and text.
+abbrev pub HasRoom : Session → ℕ → Slice → Slice → Type 0
+HasRoom s n line out = Within s n (length (now (line .entry))) (length (now (out .entry)))
+
+-- Where there is no room for n lines, a call leaves what it found.
+abbrev pub ifRoom : Session → ℕ → Slice → Slice → State → State → State
+ifRoom s n line out = cond (fits s n (length (now (line .entry))) (length (now (out .entry))))
 
 -- What was printed is written out.
 abbrev pub emptied : Session → Session

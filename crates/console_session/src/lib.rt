@@ -1,15 +1,15 @@
 // The console: requests on a device and its memories, and a session that is fed its input byte by byte.
 ghost use Prim.Native.Nat.{_+_, _*_, _≤_};
 ghost use mathlib.Core.Path.{_≡_};
-ghost use mathlib.Core.Bool.{cond};
 ghost use lib.ListN.{length, getD, set, take};
 ghost use Rattle.ring.specs.Append.{appendOf};
 ghost use Rattle.device.specs.Device.{fresh};
 ghost use Rattle.register_read.specs.Registers.{readOf};
 ghost use Rattle.register_write.specs.Registers.{written};
+ghost use Rattle.device_run.specs.Run.{lentBefore, lentAfter};
 ghost use Rattle.console_lines.specs.declared.Request.the-variants.{Run};
 ghost use Rattle.console_session.specs.Console.{performed, consoleOf, ringStart};
-ghost use Rattle.console_session.specs.Session.{stateOf, answered, kept, fed, fedAll, ended, fits, Within, emptied};
+ghost use Rattle.console_session.specs.Session.{stateBefore, stateAfter, answered, kept, fed, fedAll, ended, fits, Within, HasRoom, ifRoom, emptied};
 ghost use Rattle.console_session.specs.Parts.{performedOf, keepingOf, writtenOf, appendAnswer, readyWith};
 use adapter::Device;
 use adapter::Making;
@@ -104,7 +104,8 @@ fn run_device(
     cursor: &mut [u32],
     budget: u32,
 ) -> Performed
-    ensures { λ r. ⌜ performedOf r (now (ring .exit)) (now (framebuffer .entry)) (now (screen .exit)) (now (cursor .exit)) ≡ performed (consoleOf d (now (ring .entry)) (now (framebuffer .entry)) (now (screen .entry)) (now (cursor .entry))) (Run budget) ⌝ }
+    ensures { λ r. ⌜ performedOf r (lentAfter ring framebuffer screen cursor)
+        ≡ performed (consoleOf d (lentBefore ring framebuffer screen cursor)) (Run budget) ⌝ }
 {
     let r = adapter::run(d, ring, framebuffer, screen, cursor, budget);
     let number = r.answer;
@@ -123,7 +124,8 @@ pub fn perform(
     screen: &mut [u32],
     cursor: &mut [u32],
 ) -> Performed
-    ensures { λ r. ⌜ performedOf r (now (ring .exit)) (now (framebuffer .exit)) (now (screen .exit)) (now (cursor .exit)) ≡ performed (consoleOf d (now (ring .entry)) (now (framebuffer .entry)) (now (screen .entry)) (now (cursor .entry))) request ⌝ }
+    ensures { λ r. ⌜ performedOf r (lentAfter ring framebuffer screen cursor)
+        ≡ performed (consoleOf d (lentBefore ring framebuffer screen cursor)) request ⌝ }
 {
     match request {
         Request::Write(index, value) => return write_register(d, ring, index, value),
@@ -152,8 +154,9 @@ fn answer_line(
     out: &mut [u8],
 ) -> Session
     requires { ⌜ Within s 1 (length (now line)) (length (now out)) ⌝ }
-    ensures { λ r. ⌜ stateOf r (now (line .entry)) (now (ring .exit)) (now (framebuffer .exit)) (now (screen .exit)) (now (cursor .exit)) (now (out .exit)) ≡ answered (stateOf s (now (line .entry)) (now (ring .entry)) (now (framebuffer .entry)) (now (screen .entry)) (now (cursor .entry)) (now (out .entry))) ⌝ }
-    ensures { λ r. ⌜ Within r 0 (length (now (line .entry))) (length (now (out .entry))) ⌝ }
+    ensures { λ r. ⌜ stateAfter r line (lentAfter ring framebuffer screen cursor) out
+        ≡ answered (stateBefore s line (lentBefore ring framebuffer screen cursor) out) ⌝ }
+    ensures { λ r. ⌜ HasRoom r 0 line out ⌝ }
     ensures { λ r. ⌜ r .printed ≤ s .printed + 26 ⌝ }
 {
     let held = s.held;
@@ -195,8 +198,9 @@ fn feed_byte(
     out: &mut [u8],
 ) -> Session
     requires { ⌜ Within s 1 (length (now line)) (length (now out)) ⌝ }
-    ensures { λ r. ⌜ stateOf r (now (line .exit)) (now (ring .exit)) (now (framebuffer .exit)) (now (screen .exit)) (now (cursor .exit)) (now (out .exit)) ≡ fed (stateOf s (now (line .entry)) (now (ring .entry)) (now (framebuffer .entry)) (now (screen .entry)) (now (cursor .entry)) (now (out .entry))) b ⌝ }
-    ensures { λ r. ⌜ Within r 0 (length (now (line .entry))) (length (now (out .entry))) ⌝ }
+    ensures { λ r. ⌜ stateAfter r line (lentAfter ring framebuffer screen cursor) out
+        ≡ fed (stateBefore s line (lentBefore ring framebuffer screen cursor) out) b ⌝ }
+    ensures { λ r. ⌜ HasRoom r 0 line out ⌝ }
     ensures { λ r. ⌜ r .printed ≤ s .printed + 26 ⌝ }
 {
     if b == b'\n' {
@@ -217,8 +221,9 @@ fn feed_bytes(
     out: &mut [u8],
 ) -> Session
     requires { ⌜ Within s (length (now chunk)) (length (now line)) (length (now out)) ⌝ }
-    ensures { λ r. ⌜ stateOf r (now (line .exit)) (now (ring .exit)) (now (framebuffer .exit)) (now (screen .exit)) (now (cursor .exit)) (now (out .exit)) ≡ fedAll (stateOf s (now (line .entry)) (now (ring .entry)) (now (framebuffer .entry)) (now (screen .entry)) (now (cursor .entry)) (now (out .entry))) (now (chunk .entry)) ⌝ }
-    ensures { λ r. ⌜ Within r 0 (length (now (line .entry))) (length (now (out .entry))) ⌝ }
+    ensures { λ r. ⌜ stateAfter r line (lentAfter ring framebuffer screen cursor) out
+        ≡ fedAll (stateBefore s line (lentBefore ring framebuffer screen cursor) out) (now (chunk .entry)) ⌝ }
+    ensures { λ r. ⌜ HasRoom r 0 line out ⌝ }
 {
     let mut t = s;
     let mut i = 0;
@@ -286,8 +291,10 @@ pub fn feed(
     cursor: &mut [u32],
     out: &mut [u8],
 ) -> Session
-    ensures { λ r. ⌜ stateOf r (now (line .exit)) (now (ring .exit)) (now (framebuffer .exit)) (now (screen .exit)) (now (cursor .exit)) (now (out .exit)) ≡ cond (fits s (length (now (chunk .entry))) (length (now (line .entry))) (length (now (out .entry)))) (fedAll (stateOf s (now (line .entry)) (now (ring .entry)) (now (framebuffer .entry)) (now (screen .entry)) (now (cursor .entry)) (now (out .entry))) (now (chunk .entry))) (stateOf s (now (line .entry)) (now (ring .entry)) (now (framebuffer .entry)) (now (screen .entry)) (now (cursor .entry)) (now (out .entry))) ⌝ }
-    ensures { λ r. ⌜ (Within s (length (now (chunk .entry))) (length (now (line .entry))) (length (now (out .entry))) → Within r 0 (length (now (line .entry))) (length (now (out .entry)))) ⌝ }
+    ensures { λ r. ⌜ stateAfter r line (lentAfter ring framebuffer screen cursor) out
+        ≡ ifRoom s (length (now (chunk .entry))) line out (fedAll (stateBefore s line (lentBefore ring framebuffer screen cursor) out) (now (chunk .entry)))
+        (stateBefore s line (lentBefore ring framebuffer screen cursor) out) ⌝ }
+    ensures { λ r. ⌜ (HasRoom s (length (now (chunk .entry))) line out → HasRoom r 0 line out) ⌝ }
 {
     let good = room_for(s, chunk.len(), line.len(), out.len());
     if !good {
@@ -307,8 +314,10 @@ pub fn finish(
     cursor: &mut [u32],
     out: &mut [u8],
 ) -> Session
-    ensures { λ r. ⌜ stateOf r (now (line .entry)) (now (ring .exit)) (now (framebuffer .exit)) (now (screen .exit)) (now (cursor .exit)) (now (out .exit)) ≡ cond (fits s 1 (length (now (line .entry))) (length (now (out .entry)))) (ended (stateOf s (now (line .entry)) (now (ring .entry)) (now (framebuffer .entry)) (now (screen .entry)) (now (cursor .entry)) (now (out .entry)))) (stateOf s (now (line .entry)) (now (ring .entry)) (now (framebuffer .entry)) (now (screen .entry)) (now (cursor .entry)) (now (out .entry))) ⌝ }
-    ensures { λ r. ⌜ (Within s 1 (length (now (line .entry))) (length (now (out .entry))) → Within r 0 (length (now (line .entry))) (length (now (out .entry)))) ⌝ }
+    ensures { λ r. ⌜ stateAfter r line (lentAfter ring framebuffer screen cursor) out
+        ≡ ifRoom s 1 line out (ended (stateBefore s line (lentBefore ring framebuffer screen cursor) out))
+        (stateBefore s line (lentBefore ring framebuffer screen cursor) out) ⌝ }
+    ensures { λ r. ⌜ (HasRoom s 1 line out → HasRoom r 0 line out) ⌝ }
 {
     let good = room_for(s, 1, line.len(), out.len());
     if !good {

@@ -6,15 +6,16 @@
 -- (`device/Device.made`). Index, value, budget, word and lent memories are any.
 -- Assumes nothing.
 use mathlib.Core.Path.{_≡_, refl, sym, ap, _∙_}
-use mathlib.Core.Bool.{true, false, false≢true}
+use mathlib.Core.Bool.{true, false, false≢true, true≢false}
 use mathlib.Core.List.{List}
 use mathlib.Core.Option.{none}
 use mathlib.Core.Logic.{_↔_, _⊎_, inl, inr, ⊎-elim, Iff·trans}
 use Prim.Native.Nat.{ℕ, _*_, _≤_, min}
 use native.Mathlib.Omega.{arith}
-use lib.Dec.{eqb, leb}
+use lib.Dec.{eqb}
 use borrow.Author.Tests.{eqb-true, eqb-false, leb-true, le-leb, lt-leb}
-use Rattle.geometry.proofs.Tests.{by-bool}
+use borrow.Table.Steps.{cases}
+use Rattle.geometry.proofs.Tests.{by-cond}
 use Rattle.order.specs.declared.Cause.{Cause}
 use Rattle.order.specs.declared.Cause.the-variants.{NotOffered, BadOperand, TooLong}
 use Rattle.order.specs.declared.End.the-variants.{Drained, Waiting, Fault}
@@ -29,19 +30,18 @@ use Rattle.register.specs.declared.Register.{Register}
 use Rattle.register.specs.declared.Register.the-variants.{Writes, Reads, Absent}
 use Rattle.register.specs.Numbers.{registerOf}
 use Rattle.command.specs.declared.Action.{Action}
-use Rattle.command.proofs.Laws.{turn-none}
-use Rattle.effect.specs.Effects.{Machine, done}
-use Rattle.run.specs.Run.{scene, runIn}
+use Rattle.effect.specs.Effects.{scene, Machine, done}
+use Rattle.run.specs.Run.{knownOf, runIn}
 use Rattle.device.specs.declared.Condition.the-variants.{Faulted}
 use Rattle.device.specs.declared.Device.{Device}
-use Rattle.device.specs.Device.{pixelsOf, widthOf, heightOf, conditionOf, sizesGood, made}
+use Rattle.device.specs.Device.{pixelsOf, widthOf, heightOf, conditionOf, sizesGood, modeFits, made}
 use Rattle.device.specs.Making.{Creation, madeOf}
 use Rattle.register_write.specs.Answers.{Outcome}
 use Rattle.register_read.specs.Answers.{Reading}
 use Rattle.adapter.specs.Picture.{Pictured, pictureOf}
 use Rattle.register_read.specs.Registers.{readBy, readOf}
 use Rattle.register_write.specs.Registers.{written}
-use Rattle.device_run.specs.Run.{RunOutcome, machineOf, ran, refusedRun, runBy, runOf}
+use Rattle.device_run.specs.Run.{Lent, RunOutcome, machineOf, ran, refusedRun, runBy, runOf}
 use Rattle.device.proofs.Kept.{make-refused}
 use Rattle.register_write.proofs.Refusals as WriteRefusals
 use Rattle.register_read.proofs.Refusals as ReadRefusals
@@ -51,11 +51,11 @@ use Rattle.device_run.proofs.RunLaws.{run-by}
 use Rattle.demands.specs.Refusing.{isRefusal, Sizes, Make34, Write30, Write31, Write32, Write20, Write33, Write0, Read30}
 use Rattle.demands.specs.Refusing.{Run20, Run22, Run21, Run24, Run23, Starts, NextUsable, lineOf, turnFor, PictureLent, Picture20, Picture24, Append1}
 use Rattle.demands.specs.Refusing.{Turn0, Turn10, HeadMissing, HeadBad, Turn12, WordsMissing, OperandBad, Executes}
-use Rattle.demands.proofs.Reasons.{clash, by-cond, not-both, fails, sizes-good, ring-usable, not-usable, picture-lent, next-usable, ranged}
+use Rattle.demands.proofs.Reasons.{not-both, fails, sizes-good, ring-usable, not-usable, picture-lent, next-usable, ranged}
 use Rattle.demands.proofs.Reasons.{stops-2, run-stops, run-lost-count, fault-after, ring-carries}
 use Rattle.demands.proofs.Reasons as Reasons
 use Rattle.demands.proofs.Rules.{write-why, ended-taken, is-lent, not-lent, start, start-fits, start-ended, by-refusals, run-why}
-use Rattle.demands.proofs.Rules.{turn-why, finds, finds-10, finds-1, finds-11, finds-12, finds-command}
+use Rattle.demands.proofs.Rules.{turn-why, finds-0, finds-10, finds-1, finds-11, finds-12, finds-command}
 
 not-zero : {a : ℕ} → isRefusal a ≡ true → a ≡ 0 → ⊥
 unfolding isRefusal
@@ -75,14 +75,14 @@ module _ (memory pixels : ℕ) where
   pub make-0 : (making .answer ≡ 0) ↔ Sizes memory pixels
   unfolding madeOf
   make-0 =
-      by-bool (sizesGood memory pixels)
+      cases (sizesGood memory pixels)
       (λ t. rw t (λ e. sizes-good memory pixels .0 t, λ s. refl))
       (λ f. rw f (λ e. absurd (omega arith), λ s. not-both (sizesGood memory pixels) (sizes-good memory pixels .1 s) f))
 
   -- "making yields no device"
   pub make-nothing : isRefusal (making .answer) ≡ true → making .device ≡ none
   unfolding madeOf isRefusal
-  make-nothing = by-bool (sizesGood memory pixels) (λ t. rw t (λ e. absurd (false≢true e))) (λ f. rw f (λ e. refl))
+  make-nothing = cases (sizesGood memory pixels) (λ t. rw t (λ e. absurd (false≢true e))) (λ f. rw f (λ e. refl))
 
 -- ---- register write
 
@@ -146,8 +146,8 @@ module _ (d : Device) (index : ℕ) where
   read-0 m = rw m (go (registerOf index))
     where
       go : (r : Register) → (readBy d r .answer ≡ 0) ↔ (¬ (r ≡ Absent))
-      go (Writes w) = (λ e z. clash cc, λ n. refl)
-      go (Reads r) = (λ e z. clash cc, λ n. refl)
+      go (Writes w) = (λ e z. true≢false cc, λ n. refl)
+      go (Reads r) = (λ e z. true≢false cc, λ n. refl)
       go Absent = (λ e. absurd (omega arith), λ n. absurd (n refl))
 
   -- "Reading an absent register gives 30 and value 0." A device that no call can have made has no registers.
@@ -163,46 +163,46 @@ module _ (d : Device) (index : ℕ) where
 
 -- ---- run
 
-module _ (d : Device) (ring framebuffer screen cursor : List ℕ) (budget : ℕ) where
-  -- `adapter::run` equals `device_run/Run.runOf`: an answer, a count, and the device, ring memory, screen and cursor image that are left
+module _ (d : Device) (l : Lent) (budget : ℕ) where
+  -- `adapter::run` equals `device_run/Run.runOf`: an answer, a count, and the device and lent memories that are left
   abbrev run : RunOutcome
-  run = runOf d ring framebuffer screen cursor budget
+  run = runOf d l budget
 
   -- "A run checks 20, 22, 21, 24, 23 in that order"
-  pub run-20 : made d ≡ true → (run .answer ≡ 20) ↔ Run20 d ring framebuffer screen cursor
+  pub run-20 : made d ≡ true → (run .answer ≡ 20) ↔ Run20 d l
   unfolding runOf
-  run-20 m = (run-why d ring framebuffer screen cursor m budget 20, λ x. rw (m, not-lent d ring framebuffer screen cursor .1 x))
+  run-20 m = (run-why d l m budget 20, λ x. rw (m, not-lent d l .1 x))
 
-  pub run-22 : made d ≡ true → (run .answer ≡ 22) ↔ Run22 d ring framebuffer screen cursor
+  pub run-22 : made d ≡ true → (run .answer ≡ 22) ↔ Run22 d l
   unfolding runOf
-  run-22 m = (run-why d ring framebuffer screen cursor m budget 22, λ x. rw (m, is-lent d ring framebuffer screen cursor .1 (x .0), x .1))
+  run-22 m = (run-why d l m budget 22, λ x. rw (m, is-lent d l .1 (x .0), x .1))
 
-  pub run-21 : made d ≡ true → (run .answer ≡ 21) ↔ Run21 d ring framebuffer screen cursor
+  pub run-21 : made d ≡ true → (run .answer ≡ 21) ↔ Run21 d l
   unfolding runOf
-  run-21 m = (run-why d ring framebuffer screen cursor m budget 21, λ x. rw (m, is-lent d ring framebuffer screen cursor .1 (x .0), x .1, x .2))
+  run-21 m = (run-why d l m budget 21, λ x. rw (m, is-lent d l .1 (x .0), x .1, x .2))
 
-  pub run-24 : made d ≡ true → (run .answer ≡ 24) ↔ Run24 d ring framebuffer screen cursor
+  pub run-24 : made d ≡ true → (run .answer ≡ 24) ↔ Run24 d l
   unfolding runOf
   run-24 m = (
-    run-why d ring framebuffer screen cursor m budget 24,
-    λ x. rw (m, is-lent d ring framebuffer screen cursor .1 (x .0), x .1, x .2, lt-leb _ _ (x .3)),
+    run-why d l m budget 24,
+    λ x. rw (m, is-lent d l .1 (x .0), x .1, x .2, lt-leb _ _ (x .3)),
   )
 
-  pub run-23 : made d ≡ true → (run .answer ≡ 23) ↔ Run23 d ring framebuffer screen cursor
+  pub run-23 : made d ≡ true → (run .answer ≡ 23) ↔ Run23 d l
   unfolding runBy
   run-23 m = (
-    run-why d ring framebuffer screen cursor m budget 23,
+    run-why d l m budget 23,
     λ x.
-        let l = is-lent d ring framebuffer screen cursor .1 (x .0) in
-        rw (run-by d ring framebuffer screen cursor budget (Faulted (x .4 .0)) m l (x .1) (x .2) (le-leb _ _ (x .3)) (x .4 .1)),
+        let right = is-lent d l .1 (x .0) in
+        rw (run-by d l budget (Faulted (x .4 .0)) m right (x .1) (x .2) (le-leb _ _ (x .3)) (x .4 .1)),
   )
 
   -- else it is not refused, and starts
-  pub run-taken : made d ≡ true → (isRefusal (run .answer) ≡ false) ↔ ((g : Ring) × Starts d ring framebuffer screen cursor g)
+  pub run-taken : made d ≡ true → (isRefusal (run .answer) ≡ false) ↔ ((g : Ring) × Starts d l g)
   unfolding isRefusal
   run-taken m = (
-    by-refusals d ring framebuffer screen cursor budget
-        (λ (o : RunOutcome). isRefusal (o .answer) ≡ false → (g : Ring) × Starts d ring framebuffer screen cursor g)
+    by-refusals d l budget
+        (λ (o : RunOutcome). isRefusal (o .answer) ≡ false → (g : Ring) × Starts d l g)
         (not-both (made d) m)
         (λ x e. absurd (false≢true (sym e)))
         (λ x e. absurd (false≢true (sym e)))
@@ -210,22 +210,21 @@ module _ (d : Device) (ring framebuffer screen cursor : List ℕ) (budget : ℕ)
         (λ x e. absurd (false≢true (sym e)))
         (λ x e. absurd (false≢true (sym e)))
         (λ n g s e. (g, s)),
-    λ x. rw (start d ring framebuffer screen cursor m (x .0) budget (x .1)) (ended-taken _ (start-ended d ring framebuffer screen cursor m (x .0) budget (x .1))),
+    λ x. rw (start d l m (x .0) budget (x .1)) (ended-taken _ (start-ended d l m (x .0) budget (x .1))),
   )
 
-  -- "Answers 20 to 34 change nothing; a run's count is then 0": device, ring memory, screen and cursor image are as they were
-  pub run-nothing : isRefusal (run .answer) ≡ true
-      → run ≡ record { answer = run .answer; count = 0; device = d; ring = ring; screen = screen; cursor = cursor }
+  -- "Answers 20 to 34 change nothing; a run's count is then 0": the device and every lent memory are as they were
+  pub run-nothing : isRefusal (run .answer) ≡ true → run ≡ record { answer = run .answer; count = 0; device = d; lent = l }
   run-nothing =
-      by-refusals d ring framebuffer screen cursor budget
-      (λ (o : RunOutcome). isRefusal (o .answer) ≡ true → o ≡ refusedRun d ring framebuffer screen cursor (o .answer))
+      by-refusals d l budget
+      (λ (o : RunOutcome). isRefusal (o .answer) ≡ true → o ≡ refusedRun d l (o .answer))
       (λ f e. refl)
       (λ x e. refl)
       (λ x e. refl)
       (λ x e. refl)
       (λ x e. refl)
       (λ x e. refl)
-      (λ m g s e. not-both _ e (ended-taken _ (start-ended d ring framebuffer screen cursor m g budget s)))
+      (λ m g s e. not-both _ e (ended-taken _ (start-ended d l m g budget s)))
 
   -- a device that no call can have made is not configured
   pub run-unmade : made d ≡ false → run .answer ≡ 22
@@ -233,40 +232,40 @@ module _ (d : Device) (ring framebuffer screen cursor : List ℕ) (budget : ℕ)
   run-unmade f = rw f
 
   -- A run that starts, on the ring g.
-  module _ (m : made d ≡ true) (g : Ring) (s : Starts d ring framebuffer screen cursor g) where
+  module _ (m : made d ≡ true) (g : Ring) (s : Starts d l g) where
     -- it is `run/Run.runIn`: what it leaves is said there
-    pub run-starts : run ≡ ran d (runIn (scene (widthOf d) (heightOf d) framebuffer) g budget ring (machineOf d screen cursor))
-    run-starts = start d ring framebuffer screen cursor m g budget s
+    pub run-starts : run ≡ ran d l (runIn (scene (widthOf d) (heightOf d) (l .framebuffer)) g budget (l .ring) (machineOf d l))
+    run-starts = start d l m g budget s
 
     -- it answers 0, 1, 2, or 10 to 13
     pub run-answers : (run .answer ≤ 2) ⊎ ((10 ≤ run .answer) × (run .answer ≤ 13))
-    run-answers = rw run-starts (start-ended d ring framebuffer screen cursor m g budget s)
+    run-answers = rw run-starts (start-ended d l m g budget s)
 
     -- "budget used up: 2"
     pub run-2 : (run .answer ≡ 2) ↔ (run .count ≡ budget)
-    run-2 = rw run-starts (stops-2 _ (run-stops _ g budget ring (machineOf d screen cursor) (start-fits d ring framebuffer screen cursor m g budget s)))
+    run-2 = rw run-starts (stops-2 _ (run-stops _ g budget (l .ring) (machineOf d l) (start-fits d l m g budget s)))
 
     -- "NEXT_CMD not a multiple of 4 or outside the ring: 13", where the budget is not used up
-    pub run-13 : (run .answer ≡ 13) ↔ ((¬ NextUsable g (nextOf ring)) × (¬ (budget ≡ 0)))
+    pub run-13 : (run .answer ≡ 13) ↔ ((¬ NextUsable g (nextOf (l .ring))) × (¬ (budget ≡ 0)))
     run-13 =
-        let u = fails (nextGood g (nextOf ring)) (next-usable g (nextOf ring)) in
-        let w = Reasons.run-13 _ g budget ring (machineOf d screen cursor) (start-fits d ring framebuffer screen cursor m g budget s) (ring-carries d m g (s .1) (s .4)) in
+        let u = fails (nextGood g (nextOf (l .ring))) (next-usable g (nextOf (l .ring))) in
+        let w = Reasons.run-13 _ g budget (l .ring) (machineOf d l) (start-fits d l m g budget s) (ring-carries d m g (s .1) (s .4)) in
         rw run-starts (λ e. let x = w .0 e in (u .0 (x .0), x .1), λ x. w .1 (u .1 (x .0), x .1))
 
     pub run-13-count : run .answer ≡ 13 → run .count ≡ 0
     run-13-count e =
-        let u = fails (nextGood g (nextOf ring)) (next-usable g (nextOf ring)) in
+        let u = fails (nextGood g (nextOf (l .ring))) (next-usable g (nextOf (l .ring))) in
         rw run-starts
-        (run-lost-count _ g budget ring (machineOf d screen cursor) (start-fits d ring framebuffer screen cursor m g budget s) (u .1 (run-13 .0 e .0)))
+        (run-lost-count _ g budget (l .ring) (machineOf d l) (start-fits d l m g budget s) (u .1 (run-13 .0 e .0)))
 
     -- "a run of budget b answers as count c the smaller of b and the number of those steps. Its number is 2 if c = b, else the answer that ends straight
     -- execution there": 0, 1, 10, 11 or 12
-    pub run-count : NextUsable g (nextOf ring)
-        → (run .count ≡ min budget (whole (turnFor d framebuffer g) (lineOf d ring screen cursor g)))
-        × (run .answer ≡ answerNumber (verdict (eqb (run .count) budget) (ending (turnFor d framebuffer g) (lineOf d ring screen cursor g))))
+    pub run-count : NextUsable g (nextOf (l .ring))
+        → (run .count ≡ min budget (whole (turnFor d l g) (lineOf d l g)))
+        × (run .answer ≡ answerNumber (verdict (eqb (run .count) budget) (ending (turnFor d l g) (lineOf d l g))))
     run-count u =
-        let good = next-usable g (nextOf ring) .1 u in
-        let w = Reasons.run-many _ g budget ring (machineOf d screen cursor) (start-fits d ring framebuffer screen cursor m g budget s) good (ring-carries d m g (s .1) (s .4)) in
+        let good = next-usable g (nextOf (l .ring)) .1 u in
+        let w = Reasons.run-many _ g budget (l .ring) (machineOf d l) (start-fits d l m g budget s) good (ring-carries d m g (s .1) (s .4)) in
         rw run-starts (w .0, ap answerNumber (w .1))
 
     -- "A fault .. stands until CONFIG_DONE 1 is accepted": one stands after the run exactly when the run answered it, and has that number
@@ -275,39 +274,40 @@ module _ (d : Device) (ring framebuffer screen cursor : List ℕ) (budget : ℕ)
 
 -- ---- one turn of a run, on the words w that wait in the ring g; its numbers are `order/Straight.endNumber`
 
-module _ (d : Device) (framebuffer : List ℕ) (g : Ring) (m : Machine) (w : List ℕ) where
+module _ (d : Device) (l : Lent) (g : Ring) (m : Machine) (w : List ℕ) where
   abbrev cap : ℕ
   cap = carried (g .min) (g .max)
 
   abbrev turn : Turn Machine
-  turn = turnFor d framebuffer g m w
+  turn = turnFor d l g m w
 
+  -- what an action does to the machine
   abbrev does : Action → List ℕ → Machine → Machine
-  does = done (widthOf d) (heightOf d) framebuffer
+  does = done (scene (widthOf d) (heightOf d) (l .framebuffer))
 
   -- "NEXT_CMD = STOP: 0."
   pub turn-0 : (turn ≡ ends Drained) ↔ Turn0 w
-  turn-0 = (turn-why does cap m w (ends Drained), λ x. finds does cap m w _ (turn-none cap w x))
+  turn-0 = (turn-why knownOf does cap m w (ends Drained), finds-0 knownOf does cap m w)
 
   -- "Number not offered: 10."
   pub turn-10 : (turn ≡ ends (Fault NotOffered)) ↔ Turn10 w
-  turn-10 = (turn-why does cap m w (ends (Fault NotOffered)), λ x. finds does cap m w _ (finds-10 cap w x))
+  turn-10 = (turn-why knownOf does cap m w (ends (Fault NotOffered)), finds-10 knownOf does cap m w)
 
   -- "Head incomplete: 1." "Words missing: 1."
   pub turn-1 : (turn ≡ ends Waiting) ↔ (HeadMissing w ⊎ WordsMissing cap w)
-  turn-1 = (turn-why does cap m w (ends Waiting), λ x. finds does cap m w _ (finds-1 cap w x))
+  turn-1 = (turn-why knownOf does cap m w (ends Waiting), finds-1 knownOf does cap m w)
 
   -- "Cursor head bad: 11." "Raster operation above 15: 11."
-  pub turn-11 : (turn ≡ ends (Fault BadOperand)) ↔ (HeadBad w ⊎ OperandBad cap w)
-  turn-11 = (turn-why does cap m w (ends (Fault BadOperand)), λ x. finds does cap m w _ (finds-11 cap w x))
+  pub turn-11 : (turn ≡ ends (Fault BadOperand)) ↔ (HeadBad w ⊎ OperandBad (knownOf m) cap w)
+  turn-11 = (turn-why knownOf does cap m w (ends (Fault BadOperand)), finds-11 knownOf does cap m w)
 
   -- "Length above what the ring carries: 12."
   pub turn-12 : (turn ≡ ends (Fault TooLong)) ↔ Turn12 cap w
-  turn-12 = (turn-why does cap m w (ends (Fault TooLong)), λ x. finds does cap m w _ (finds-12 cap w x))
+  turn-12 = (turn-why knownOf does cap m w (ends (Fault TooLong)), finds-12 knownOf does cap m w)
 
   -- "Then it is executed": n words, which leave the machine s
-  pub turn-executes : ((n : ℕ) × (s : Machine) × (turn ≡ exec n s)) ↔ Executes cap w
-  turn-executes = (λ x. turn-why does cap m w _ (x .2), λ x. (_, _, finds does cap m w _ (finds-command cap w x)))
+  pub turn-executes : ((n : ℕ) × (s : Machine) × (turn ≡ exec n s)) ↔ Executes (knownOf m) cap w
+  turn-executes = (λ x. turn-why knownOf does cap m w _ (x .2), λ x. (_, _, finds-command knownOf does cap m w x))
 
 -- ---- picture
 
@@ -330,9 +330,9 @@ module _ (d : Device) (screen image output : List ℕ) where
   unfolding pictureOf
   picture-0 m =
       let l = picture-lent d screen image output in
-      by-bool (PictureRefusals.lent d screen image output)
+      cases (PictureRefusals.lent d screen image output)
       (λ t.
-      by-bool (leb (widthOf d * heightOf d) (pixelsOf d))
+      cases (modeFits d)
       (λ f. rw (m, t, f) (λ e. (l .0 t, leb-true _ _ f), λ x. refl))
       (λ f. rw (m, t, f) (λ e. absurd (omega arith), λ x. not-both _ (le-leb _ _ (x .1)) f)))
       (λ t. rw (m, t) (λ e. absurd (omega arith), λ x. not-both _ (l .1 (x .0)) t))
@@ -355,15 +355,15 @@ module _ (ring : List ℕ) (word : ℕ) where
 
   refuses : append .answer ≡ 1 → canAppend ring ≡ false
   unfolding appendOf
-  refuses = by-bool (canAppend ring) (λ t. rw t (λ e. absurd (omega arith))) (λ f e. f)
+  refuses = cases (canAppend ring) (λ t. rw t (λ e. absurd (omega arith))) (λ f e. f)
 
   -- "An append .. moves NEXT_CMD on by 4, MAX becoming MIN; if that would make it equal ring word 3, it is refused"
   pub append-1 : (append .answer ≡ 1) ↔ Append1 ring
   unfolding appendOf canAppend
   append-1 =
-      by-bool (usable ring)
+      cases (usable ring)
       (λ u.
-      by-bool (eqb (movedOn (minOf ring) (maxOf ring) (nextOf ring)) (stopOf ring))
+      cases (eqb (movedOn (minOf ring) (maxOf ring) (nextOf ring)) (stopOf ring))
       (λ t. rw (u, t) (λ e. inr (eqb-true _ _ t), λ z. refl))
       (λ f. rw (u, f) (λ e. absurd (omega arith), λ z. absurd (⊎-elim (λ n. n (ring-usable ring .0 u)) (eqb-false _ _ f) z))))
       (λ n. rw n (λ e. inl (not-usable ring .0 n), λ z. refl))
@@ -371,7 +371,7 @@ module _ (ring : List ℕ) (word : ℕ) where
   pub append-0 : (append .answer ≡ 0) ↔ (¬ Append1 ring)
   unfolding appendOf
   append-0 =
-      by-bool (canAppend ring)
+      cases (canAppend ring)
       (λ t. rw t (λ e x. let z : append .answer ≡ 1 = append-1 .1 x in not-both _ t (refuses z), λ n. refl))
       (λ f. rw f (λ e. absurd (omega arith), λ n. absurd (n (append-1 .0 (rw f)))))
 

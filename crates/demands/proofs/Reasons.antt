@@ -1,16 +1,17 @@
 -- What the statements of Demand2 rest on: tests and what they say, and how the turns of a run end.
 -- Assumes nothing.
 use mathlib.Core.Path.{_≡_, refl, sym, ap, _∙_}
-use mathlib.Core.Bool.{Bool, true, false, cond, false≢true, _&&_, _||_}
+use mathlib.Core.Bool.{Bool, true, false, cond, false≢true, true≢false, _&&_}
 use mathlib.Core.List.{List}
-use mathlib.Core.Logic.{_↔_, _≢_, _⊎_, inl, inr, ⊎-elim}
-use Prim.Native.Nat.{ℕ, zero, suc, _+_, _*_, _/_, _%_, _≤_, _<_, min}
+use mathlib.Core.Logic.{_↔_, _⊎_, inl, inr, ⊎-elim}
+use Prim.Native.Nat.{ℕ, zero, suc, _*_, _/_, _%_, _≤_, _<_, min}
 use native.Mathlib.Omega.{arith}
 use native.Mathlib.Nat.{zero-min, min-zero, suc-min-suc}
 use lib.Dec.{eqb, leb, eqb·zero-suc, eqb·suc-suc}
 use lib.ListN.{length}
-use borrow.Author.Tests.{eqb-true, eqb-false, leb-true, ltb-true, eq-eqb, ne-eqb, le-leb, lt-ltb}
-use Rattle.geometry.proofs.Tests.{by-bool, both}
+use borrow.Author.Tests.{eqb-true, leb-true, ltb-true, eq-eqb, ne-eqb, le-leb, lt-ltb}
+use borrow.Table.Steps.{cases}
+use Rattle.geometry.proofs.Tests.{both}
 use Rattle.order.specs.declared.Cause.{Cause}
 use Rattle.order.specs.declared.Cause.the-variants.{NotOffered, BadOperand, TooLong, BadNext}
 use Rattle.order.specs.declared.End.{End}
@@ -24,39 +25,31 @@ use Rattle.order.proofs.QueueLaws.{runs-ends, runs-exec}
 use Rattle.ring.specs.declared.Ring.{Ring}
 use Rattle.ring.specs.Waiting.{waiting, carried, placed, nextGood}
 use Rattle.ring.specs.Acceptance.{usable, nextOf}
-use Rattle.ring.proofs.Laws.{Usable, usable-when, when-usable}
+use Rattle.ring.proofs.Laws.{Usable, usable-when, when-usable, Placed, placed-when}
 use Rattle.register.specs.declared.Writable.{Writable}
 use Rattle.register.specs.declared.Writable.the-variants.{Id, Enable, Width, Height, ConfigDone, Sync, GuestId, CursorId, CursorX, CursorY, CursorOn}
 use Rattle.command.proofs.Laws.{command-laws}
-use Rattle.effect.specs.Effects.{Machine, done}
+use Rattle.effect.specs.Effects.{Scene, Machine, done}
 use Rattle.run.specs.Turns.{viewOf}
-use Rattle.run.specs.Run.{Scene, table, turnIn, left, runWords, lost, fitting, runIn}
+use Rattle.run.specs.Run.{knownOf, table, turnIn, left, runWords, lost, fitting, runIn}
 use Rattle.run.proofs.RunLaws.{run-lost, run-good}
 use Rattle.device.specs.declared.Condition.the-variants.{Idle, Running, Faulted}
 use Rattle.device.specs.declared.Device.{Device}
-use Rattle.device.specs.Device.{memoryOf, pixelsOf, configuredOf, conditionOf, sizesGood, ringGood, conditionGood, made}
+use Rattle.device.specs.Device.{memoryOf, pixelsOf, configuredOf, conditionOf, sizesGood, conditionGood, made}
 use Rattle.adapter.specs.Picture.{lengthsGood}
-use Rattle.device_run.specs.Run.{lentGood, conditionAfter}
+use Rattle.device_run.specs.Run.{Lent, lentGood, conditionAfter}
 use Rattle.device.proofs.Laws.{well-formed}
-use Rattle.register_write.proofs.Refusals.{inRange}
-use Rattle.demands.specs.Refusing.{Sizes, Ranged, Lent, NextUsable, PictureLent}
-
-pub clash : _≡_ {A = ℕ} 0 1 → ⊥
-clash z = omega arith
+use Rattle.register_write.specs.Registers.{inRange}
+use Rattle.demands.specs.Refusing.{Sizes, Ranged, RunLent, NextUsable, PictureLent}
 
 -- ---- tests
-
--- a property of what a test chooses, by its two cases
-pub by-cond : {A : Type 0} (P : A → Type 0) (b : Bool) {x y : A} → (b ≡ true → P x) → (b ≡ false → P y) → P (cond b x y)
-by-cond P true p q = p refl
-by-cond P false p q = q refl
 
 pub not-both : {A : Type 0} (b : Bool) → b ≡ true → b ≡ false → A
 not-both b t f = absurd (false≢true (sym f ∙ t))
 
 -- a test that passes exactly where P holds fails exactly where it does not
 pub fails : {P : Type 0} (b : Bool) → (b ≡ true) ↔ P → (b ≡ false) ↔ (¬ P)
-fails b w = (λ f x. not-both b (w .1 x) f, λ n. by-bool b (λ t. absurd (n (w .0 t))) (λ f. f))
+fails b w = (λ f x. not-both b (w .1 x) f, λ n. cases b (λ t. absurd (n (w .0 t))) (λ f. f))
 
 pub sizes-good : (memory pixels : ℕ) → (sizesGood memory pixels ≡ true) ↔ Sizes memory pixels
 unfolding sizesGood
@@ -77,10 +70,9 @@ pub not-usable : (ring : List ℕ) → (usable ring ≡ false) ↔ (¬ Usable ri
 not-usable ring = fails (usable ring) (ring-usable ring)
 
 module _ (d : Device) where
-  pub lent-good : (ring framebuffer screen cursor : List ℕ)
-      → (lentGood d (length ring) (length framebuffer) (length screen) (length cursor) ≡ true) ↔ Lent d ring framebuffer screen cursor
+  pub lent-good : (l : Lent) → (lentGood d l ≡ true) ↔ RunLent d l
   unfolding lentGood
-  lent-good ring framebuffer screen cursor = (
+  lent-good l = (
     λ e.
         let a = both _ _ e in
         let b = both _ _ (a .1) in
@@ -114,12 +106,6 @@ next-usable g next = (
       rw (eq-eqb _ _ w, le-leb (g .min) (next / 4) (omega arith), lt-ltb (next / 4) (g .max) (omega arith)),
 )
 
-zero-or-one : (v : ℕ) → (eqb v 0 || eqb v 1 ≡ true) ↔ (v ≤ 1)
-zero-or-one v = (
-  λ e. by-bool (eqb v 0) (λ z. omega (arith, eqb-true v 0 z)) (λ f. omega (arith, eqb-true v 1 (rw f at e))),
-  λ h. by-bool (eqb v 0) (λ z. rw z) (λ f. let n : v ≢ 0 = eqb-false v 0 f in rw (f, eq-eqb v 1 (omega arith))),
-)
-
 between : (low high v : ℕ) → (leb low v && leb v high ≡ true) ↔ ((low ≤ v) × (v ≤ high))
 between low high v = (
   λ e. let b = both (leb low v) (leb v high) e in (leb-true _ _ (b .0), leb-true _ _ (b .1)),
@@ -127,11 +113,12 @@ between low high v = (
 )
 
 pub ranged : (w : Writable) (v : ℕ) → (inRange w v ≡ true) ↔ Ranged w v
+unfolding inRange
 ranged Id v = (λ e. tt, λ x. refl)
-ranged Enable v = zero-or-one v
+ranged Enable v = (leb-true v 1, le-leb v 1)
 ranged Width v = between 1 2560 v
 ranged Height v = between 1 1600 v
-ranged ConfigDone v = zero-or-one v
+ranged ConfigDone v = (leb-true v 1, le-leb v 1)
 ranged Sync v = (λ e. tt, λ x. refl)
 ranged GuestId v = (λ e. tt, λ x. refl)
 ranged CursorId v = (λ e. tt, λ x. refl)
@@ -236,23 +223,23 @@ module _ (s : Scene) (g : Ring) (budget : ℕ) (ring : List ℕ) (m : Machine) (
   unfolding runIn runWords left
   run-stops = rw fits (runs-stop (turnIn s g (nextOf ring)) budget _)
 
-  turn-13 : nextGood g (nextOf ring) ≡ true → 8 ≤ carried (g .min) (g .max) → (n : Machine) (w : List ℕ)
+  turn-13 : nextGood g (nextOf ring) ≡ true → 10 ≤ carried (g .min) (g .max) → (n : Machine) (w : List ℕ)
       → turnIn s g (nextOf ring) n w ≡ ends (Fault BadNext) → ⊥
   unfolding turnIn unless
-  turn-13 good h n w q = command-laws (done (s .width) (s .rows) (s .framebuffer)) (carried (g .min) (g .max)) h .not-13 n w (rw good at q)
+  turn-13 good h n w q = command-laws knownOf (done s) (carried (g .min) (g .max)) h .not-13 n w (rw good at q)
 
   pub run-lost-count : nextGood g (nextOf ring) ≡ false → runIn s g budget ring m .count ≡ 0
   run-lost-count bad = rw (run-lost s g budget ring m fits bad)
 
-  pub run-13 : 8 ≤ carried (g .min) (g .max) → (answerNumber (runIn s g budget ring m .answer) ≡ 13) ↔ ((nextGood g (nextOf ring) ≡ false) × (¬ (budget ≡ 0)))
+  pub run-13 : 10 ≤ carried (g .min) (g .max) → (answerNumber (runIn s g budget ring m .answer) ≡ 13) ↔ ((nextGood g (nextOf ring) ≡ false) × (¬ (budget ≡ 0)))
   run-13 h =
-      by-bool (nextGood g (nextOf ring))
+      cases (nextGood g (nextOf ring))
       (λ good. (λ e. absurd (stops-13 _ (turn-13 good h) run-stops e), λ x. not-both _ good (x .0)))
       (λ bad.
       let answer : answerNumber (runIn s g budget ring m .answer) ≡ answerNumber (lost budget) = rw (run-lost s g budget ring m fits bad) in
       (λ e. (bad, lost-13 budget .0 (sym answer ∙ e)), λ x. answer ∙ lost-13 budget .1 (x .1)))
 
-  pub run-many : nextGood g (nextOf ring) ≡ true → 8 ≤ carried (g .min) (g .max)
+  pub run-many : nextGood g (nextOf ring) ≡ true → 10 ≤ carried (g .min) (g .max)
       → let a : Line Machine = record { words = waiting ring (g .min) (g .max) (g .stop) (nextOf ring / 4); machine = m } in
       let turn : Machine → List ℕ → Turn Machine = turnOf (carried (g .min) (g .max)) (table s) in
       (runIn s g budget ring m .count ≡ min budget (whole turn a))
@@ -260,15 +247,15 @@ module _ (s : Scene) (g : Ring) (budget : ℕ) (ring : List ℕ) (m : Machine) (
   unfolding runWords left waiting
   run-many good h =
       rw (← run-good s g budget ring m (viewOf g (nextOf ring)) fits good refl)
-      (runs-many _ (command-laws (done (s .width) (s .rows) (s .framebuffer)) (carried (g .min) (g .max)) h) budget _)
+      (runs-many _ (command-laws knownOf (done s) (carried (g .min) (g .max)) h) budget _)
 
 -- "A fault .. stands": the condition after an answer
 pub fault-after : (a : Answer) (g : Ring) (c : Cause) → (conditionAfter a g ≡ Faulted c) ↔ (answerNumber a ≡ causeNumber c)
 unfolding conditionAfter
-fault-after spent g c = (λ e. absurd (clash cc), λ e. absurd (omega (arith, cause-range c)))
-fault-after standing g c = (λ e. absurd (clash cc), λ e. absurd (omega (arith, cause-range c)))
-fault-after (ended Drained) g c = (λ e. absurd (clash cc), λ e. absurd (omega (arith, cause-range c)))
-fault-after (ended Waiting) g c = (λ e. absurd (clash cc), λ e. absurd (omega (arith, cause-range c)))
+fault-after spent g c = (λ e. absurd (true≢false cc), λ e. absurd (omega (arith, cause-range c)))
+fault-after standing g c = (λ e. absurd (true≢false cc), λ e. absurd (omega (arith, cause-range c)))
+fault-after (ended Drained) g c = (λ e. absurd (true≢false cc), λ e. absurd (omega (arith, cause-range c)))
+fault-after (ended Waiting) g c = (λ e. absurd (true≢false cc), λ e. absurd (omega (arith, cause-range c)))
 fault-after (ended (Fault k)) g c = (λ e. let same : k ≡ c = cc in ap causeNumber same, λ e. ap Faulted (same-cause k c e))
 
 -- ---- a made device
@@ -278,33 +265,19 @@ module _ (d : Device) (m : made d ≡ true) where
   unfolding conditionGood
   not-idle c i = false≢true (rw (c, i) at (well-formed d m .condition))
 
-  ring-there : (g : Ring) → configuredOf d ≡ true → conditionOf d ≡ Running g → ringGood (memoryOf d) g ≡ true
+  ring-there : (g : Ring) → configuredOf d ≡ true → conditionOf d ≡ Running g → placed g (memoryOf d / 4) ≡ true
   unfolding conditionGood
   ring-there g c r = rw (c, r) at (well-formed d m .condition)
 
   module _ (g : Ring) (c : configuredOf d ≡ true) (r : conditionOf d ≡ Running g) where
-    ring-bounds : (4 ≤ g .min) × (g .max ≤ memoryOf d / 4) × (g .min + 2560 ≤ g .max) × (g .min ≤ g .stop) × (g .stop < g .max)
-    unfolding ringGood
-    ring-bounds =
-        let a = both _ _ (ring-there g c r) in
-        let b = both _ _ (a .1) in
-        let e = both _ _ (b .1) in
-        let f = both _ _ (e .1) in
-        (leb-true _ _ (a .0), leb-true _ _ (b .0), leb-true _ _ (e .0), leb-true _ _ (f .0), ltb-true _ _ (f .1))
+    ring-bounds : Placed g (memoryOf d / 4)
+    ring-bounds = placed-when g (memoryOf d / 4) (ring-there g c r)
 
-    pub ring-carries : 8 ≤ carried (g .min) (g .max)
+    pub ring-carries : 10 ≤ carried (g .min) (g .max)
     ring-carries = let b = ring-bounds in omega arith
 
-    pub ring-fits : (ring cursor : List ℕ) → length ring ≡ memoryOf d / 4 → length cursor ≡ 4096 → fitting g (length ring) (length cursor) ≡ true
-    unfolding fitting placed
-    ring-fits ring cursor l k =
-        let b = ring-bounds in
-        let w = well-formed d m in
-        rw (
-          le-leb 4 (g .min) (b .0),
-          le-leb (g .min) (g .stop) (b .3),
-          lt-ltb (g .stop) (g .max) (b .4),
-          le-leb (g .max) 524288 (omega (arith, b .1, w .memory-high)),
-          le-leb (g .max) (length ring) (omega (arith, b .1)),
-        )
-        (eq-eqb (length cursor) 4096 k)
+    pub ring-fits : (l : Lent) → RunLent d l → fitting g (length (l .ring)) (length (l .cursor)) ≡ true
+    unfolding fitting
+    ring-fits l s =
+        let small = le-leb (g .max) 524288 (omega (arith, ring-bounds .fits, well-formed d m .memory-high)) in
+        rw (s .0, ring-there g c r, small) (eq-eqb (length (l .cursor)) 4096 (s .3))

@@ -6,7 +6,7 @@ use mathlib.Core.List.{List}
 use mathlib.Core.Logic.{_⊎_}
 use Prim.Native.Nat.{ℕ, _*_, _/_, _%_, _≤_, _<_}
 use lib.Dec.{leb}
-use lib.ListN.{length, getD}
+use lib.ListN.{length}
 use Rattle.order.specs.declared.Cause.{Cause}
 use Rattle.order.specs.Straight.{Turn, Line}
 use Rattle.order.specs.Table.{turnOf}
@@ -20,15 +20,13 @@ use Rattle.register.specs.declared.ReadOnly.{ReadOnly}
 use Rattle.register.specs.declared.Writable.{Writable}
 use Rattle.register.specs.declared.Writable.the-variants.{Id, Enable, Width, Height, ConfigDone, Sync, GuestId, CursorId, CursorX, CursorY, CursorOn}
 use Rattle.register.specs.Numbers.{registerOf}
-use Rattle.command.specs.declared.Kind.{Kind}
-use Rattle.command.specs.Commands.{kindOf, offered, headWords, sizeOf, headGood, operandsGood}
-use Rattle.command.specs.Offered.{commandIn}
-use Rattle.effect.specs.Effects.{Machine}
-use Rattle.run.specs.Run.{scene, table}
+use Rattle.command.specs.Commands.{Known, entry, sizeBy, kindIn}
+use Rattle.effect.specs.Effects.{scene, Machine}
+use Rattle.run.specs.Run.{table}
 use Rattle.device.specs.declared.Condition.the-variants.{Running, Faulted}
 use Rattle.device.specs.declared.Device.{Device}
 use Rattle.device.specs.Device.{memoryOf, pixelsOf, widthOf, heightOf, enabledOf, configuredOf, conditionOf}
-use Rattle.device_run.specs.Run.{machineOf}
+use Rattle.device_run.specs.Run.{Lent, machineOf}
 
 -- "Answers 20 to 34 change nothing"
 unfoldable pub isRefusal : ℕ → Bool
@@ -96,35 +94,39 @@ Read30 index = registerOf index ≡ Absent
 
 -- ---- run: "A run checks 20, 22, 21, 24, 23 in that order"
 
-module _ (d : Device) (ring framebuffer screen cursor : List ℕ) where
+module _ (d : Device) (l : Lent) where
   -- "the ring memory (M/4 words), the framebuffer (P), the screen (P), the cursor image (4,096)"
-  abbrev pub Lent : Type 0
-  Lent = (length ring ≡ memoryOf d / 4) × (length framebuffer ≡ pixelsOf d) × (length screen ≡ pixelsOf d) × (length cursor ≡ 4096)
+  abbrev pub RunLent : Type 0
+  RunLent =
+      (length (l .ring) ≡ memoryOf d / 4)
+      × (length (l .framebuffer) ≡ pixelsOf d)
+      × (length (l .screen) ≡ pixelsOf d)
+      × (length (l .cursor) ≡ 4096)
 
   -- "A lent length that differs is answer 20."
   abbrev pub Run20 : Type 0
-  Run20 = ¬ Lent
+  Run20 = ¬ RunLent
 
   -- "not configured"
   abbrev pub Run22 : Type 0
-  Run22 = Lent × (configuredOf d ≡ false)
+  Run22 = RunLent × (configuredOf d ≡ false)
 
   -- "disabled"
   abbrev pub Run21 : Type 0
-  Run21 = Lent × (configuredOf d ≡ true) × (enabledOf d ≡ false)
+  Run21 = RunLent × (configuredOf d ≡ true) × (enabledOf d ≡ false)
 
   -- "width·height above P"
   abbrev pub Run24 : Type 0
-  Run24 = Lent × (configuredOf d ≡ true) × (enabledOf d ≡ true) × (pixelsOf d < widthOf d * heightOf d)
+  Run24 = RunLent × (configuredOf d ≡ true) × (enabledOf d ≡ true) × (pixelsOf d < widthOf d * heightOf d)
 
   -- "fault already standing"
   abbrev pub Run23 : Type 0
   Run23 =
-      Lent × (configuredOf d ≡ true) × (enabledOf d ≡ true) × (widthOf d * heightOf d ≤ pixelsOf d) × ((c : Cause) × (conditionOf d ≡ Faulted c))
+      RunLent × (configuredOf d ≡ true) × (enabledOf d ≡ true) × (widthOf d * heightOf d ≤ pixelsOf d) × ((c : Cause) × (conditionOf d ≡ Faulted c))
 
   -- none of these: the run starts, on the ring g that was remembered
   abbrev pub Starts : Ring → Type 0
-  Starts g = Lent × (configuredOf d ≡ true) × (enabledOf d ≡ true) × (widthOf d * heightOf d ≤ pixelsOf d) × (conditionOf d ≡ Running g)
+  Starts g = RunLent × (configuredOf d ≡ true) × (enabledOf d ≡ true) × (widthOf d * heightOf d ≤ pixelsOf d) × (conditionOf d ≡ Running g)
 
 -- ---- a run that starts
 
@@ -133,19 +135,15 @@ abbrev pub NextUsable : Ring → ℕ → Type 0
 NextUsable g next = (next % 4 ≡ 0) × (4 * g .min ≤ next) × (next < 4 * g .max)
 
 -- the words that wait from STOP up to a usable NEXT_CMD, with the machine that they work on
-abbrev pub lineOf : Device → List ℕ → List ℕ → List ℕ → Ring → Line Machine
-lineOf d ring screen cursor g =
-    record { words = waiting ring (g .min) (g .max) (g .stop) (nextOf ring / 4); machine = machineOf d screen cursor }
+abbrev pub lineOf : Device → Lent → Ring → Line Machine
+lineOf d l g =
+    record { words = waiting (l .ring) (g .min) (g .max) (g .stop) (nextOf (l .ring) / 4); machine = machineOf d l }
 
 -- what a turn finds in the words that wait
-abbrev pub turnFor : Device → List ℕ → Ring → Machine → List ℕ → Turn Machine
-turnFor d framebuffer g = turnOf (carried (g .min) (g .max)) (table (scene (widthOf d) (heightOf d) framebuffer))
+abbrev pub turnFor : Device → Lent → Ring → Machine → List ℕ → Turn Machine
+turnFor d l g = turnOf (carried (g .min) (g .max)) (table (scene (widthOf d) (heightOf d) (l .framebuffer)))
 
--- ---- one turn, "in this order", on the words w that wait in a ring that carries cap words
-
--- what the first word says
-abbrev pub kindIn : List ℕ → Kind
-kindIn w = kindOf (getD w 0 0)
+-- ---- one turn, "in this order", on the words w that wait in a ring that carries cap words: by their row of document 01's table, `entry (kindIn w)`
 
 -- "NEXT_CMD = STOP: 0."
 abbrev pub Turn0 : List ℕ → Type 0
@@ -153,37 +151,39 @@ Turn0 w = length w ≡ 0
 
 -- "Number not offered: 10."
 abbrev pub Turn10 : List ℕ → Type 0
-Turn10 w = (¬ Turn0 w) × (offered (kindIn w) ≡ false)
+Turn10 w = (¬ Turn0 w) × (entry (kindIn w) .offered ≡ false)
 
 -- "Head incomplete: 1."
 abbrev pub HeadMissing : List ℕ → Type 0
-HeadMissing w = (¬ Turn0 w) × (offered (kindIn w) ≡ true) × (length w < headWords (kindIn w))
+HeadMissing w = (¬ Turn0 w) × (entry (kindIn w) .offered ≡ true) × (length w < entry (kindIn w) .head)
 
 abbrev pub HeadThere : List ℕ → Type 0
-HeadThere w = (¬ Turn0 w) × (offered (kindIn w) ≡ true) × (headWords (kindIn w) ≤ length w)
+HeadThere w = (¬ Turn0 w) × (entry (kindIn w) .offered ≡ true) × (entry (kindIn w) .head ≤ length w)
 
 -- "Cursor head bad: 11."
 abbrev pub HeadBad : List ℕ → Type 0
-HeadBad w = HeadThere w × (headGood (commandIn w) ≡ false)
+HeadBad w = HeadThere w × (entry (kindIn w) .headGood w ≡ false)
 
 -- "Length above what the ring carries: 12."
 abbrev pub Turn12 : ℕ → List ℕ → Type 0
-Turn12 cap w = HeadThere w × (headGood (commandIn w) ≡ true) × (cap < sizeOf (commandIn w))
+Turn12 cap w = HeadThere w × (entry (kindIn w) .headGood w ≡ true) × (cap < sizeBy (kindIn w) w)
 
 -- "Words missing: 1."
 abbrev pub WordsMissing : ℕ → List ℕ → Type 0
-WordsMissing cap w = HeadThere w × (headGood (commandIn w) ≡ true) × (sizeOf (commandIn w) ≤ cap) × (length w < sizeOf (commandIn w))
+WordsMissing cap w =
+    HeadThere w × (entry (kindIn w) .headGood w ≡ true) × (sizeBy (kindIn w) w ≤ cap) × (length w < sizeBy (kindIn w) w)
 
 abbrev pub WordsThere : ℕ → List ℕ → Type 0
-WordsThere cap w = HeadThere w × (headGood (commandIn w) ≡ true) × (sizeOf (commandIn w) ≤ cap) × (sizeOf (commandIn w) ≤ length w)
+WordsThere cap w =
+    HeadThere w × (entry (kindIn w) .headGood w ≡ true) × (sizeBy (kindIn w) w ≤ cap) × (sizeBy (kindIn w) w ≤ length w)
 
--- "Raster operation above 15: 11."
-abbrev pub OperandBad : ℕ → List ℕ → Type 0
-OperandBad cap w = WordsThere cap w × (operandsGood (commandIn w) ≡ false)
+-- "Raster operation above 15: 11." `known` is what the checks see of the machine.
+abbrev pub OperandBad : Known → ℕ → List ℕ → Type 0
+OperandBad known cap w = WordsThere cap w × (entry (kindIn w) .good known w ≡ false)
 
 -- "Then it is executed"
-abbrev pub Executes : ℕ → List ℕ → Type 0
-Executes cap w = WordsThere cap w × (operandsGood (commandIn w) ≡ true)
+abbrev pub Executes : Known → ℕ → List ℕ → Type 0
+Executes known cap w = WordsThere cap w × (entry (kindIn w) .good known w ≡ true)
 
 -- ---- picture: "a picture 20, 24"
 

@@ -1,18 +1,17 @@
--- What making and defining keep: a made device is well-formed, and a defined cursor leaves it so.
+-- What is made is well-formed.
 -- Assumes nothing.
 use mathlib.Core.Path.{_≡_}
-use mathlib.Core.Bool.{true, false}
+use mathlib.Core.Bool.{true, false, true≢false}
 use mathlib.Core.Option.{Option, none, some}
 use mathlib.Core.Logic.{_↔_}
 use Prim.Native.Nat.{ℕ}
 use native.Mathlib.Omega.{arith}
 use borrow.Author.Tests.{eq-eqb, le-leb}
-use Rattle.geometry.proofs.Tests.{by-bool, both}
-use Rattle.cursor.specs.declared.Shape.{Shape}
+use borrow.Table.Steps.{cases}
+use Rattle.geometry.proofs.Tests.{both}
 use Rattle.device.specs.declared.Device.{Device}
 use Rattle.device.specs.Making.{madeOf}
-use Rattle.cursor.specs.Plane.{shapeGood}
-use Rattle.device.specs.Device.{memoryOf, pixelsOf, widthOf, heightOf, sizesGood, fresh, modeGood, conditionGood, definedGood, made, cursorDefined}
+use Rattle.device.specs.Device.{memoryOf, pixelsOf, widthOf, heightOf, definedOf, sizesGood, fresh, modeGood, conditionGood, definedGood, made}
 use Rattle.device.proofs.Laws.{WellFormed}
 
 -- the converse of `well-formed`
@@ -38,7 +37,7 @@ pub parts : (d : Device) → made d ≡ true
     → (sizesGood (memoryOf d) (pixelsOf d) ≡ true)
     × (modeGood (widthOf d) (heightOf d) ≡ true)
     × (conditionGood (memoryOf d) (d .registers .config) (d .condition) ≡ true)
-    × (definedGood (d .defined) ≡ true)
+    × (definedGood (definedOf d) ≡ true)
 unfolding made
 parts d m = let x = both _ _ m in let y = both _ _ (x .1) in let z = both _ _ (y .1) in (x .0, y .0, z .0, z .1)
 
@@ -52,21 +51,14 @@ fresh-made memory pixels e = rw e
 pub make-made : (memory pixels : ℕ) (d : Device) → madeOf memory pixels .device ≡ some d → (made d ≡ true) × (d ≡ fresh memory pixels)
 unfolding madeOf
 make-made memory pixels d e =
-    by-bool (sizesGood memory pixels)
+    cases (sizesGood memory pixels)
     (λ t.
     let m : some (fresh memory pixels) ≡ some d = rw t at e in
     let eq : fresh memory pixels ≡ d = cc in (rw eq at (fresh-made memory pixels t), cc))
-    (λ f. let m : _≡_ {A = Option Device} none (some d) = rw f at e in let z : _≡_ {A = ℕ} 0 1 = cc in absurd (omega arith))
+    (λ f. let m : _≡_ {A = Option Device} none (some d) = rw f at e in absurd (true≢false cc))
 
 -- 34 exactly when M or P is none of those allowed
 pub make-refused : (memory pixels : ℕ) → (madeOf memory pixels .answer ≡ 34) ↔ (sizesGood memory pixels ≡ false)
 unfolding madeOf
 make-refused memory pixels =
-    (λ e. by-bool (sizesGood memory pixels) (λ t. let m : 0 ≡ 34 = rw t at e in absurd (omega arith)) (λ f. f), λ f. rw f)
-
--- ---- defining a cursor
-
-pub defined-made : (d : Device) (s : Shape) → made d ≡ true → made (cursorDefined d s) ≡ true
-unfolding made definedGood cursorDefined
-defined-made d s m =
-    by-bool (shapeGood s) (λ t. let x = parts d m in rw (t, x .0, x .1, x .2) t) (λ f. rw f m)
+    (λ e. cases (sizesGood memory pixels) (λ t. let m : 0 ≡ 34 = rw t at e in absurd (omega arith)) (λ f. f), λ f. rw f)

@@ -8,7 +8,7 @@ use native.Mathlib.Omega.{arith}
 use borrow.Author.Tests.{eqb-true, leb-true}
 use Rattle.geometry.proofs.Tests.{both}
 use Rattle.device.specs.declared.Device.{Device}
-use Rattle.device.specs.Device.{memoryOf, pixelsOf, widthOf, heightOf, sizesGood, modeGood, conditionGood, definedGood, made}
+use Rattle.device.specs.Device.{memoryOf, pixelsOf, widthOf, heightOf, definedOf, sizesGood, modeGood, conditionGood, definedGood, made}
 
 pub record WellFormed (d : Device) : Type 0 where
   pub memory-words : memoryOf d % 4 ≡ 0
@@ -21,7 +21,7 @@ pub record WellFormed (d : Device) : Type 0 where
   pub height-low : 1 ≤ heightOf d
   pub height-high : heightOf d ≤ 1600
   pub condition : conditionGood (memoryOf d) (d .registers .config) (d .condition) ≡ true
-  pub defined : definedGood (d .defined) ≡ true
+  pub defined : definedGood (definedOf d) ≡ true
 
 pub well-formed : (d : Device) → made d ≡ true → WellFormed d
 unfolding made sizesGood modeGood
@@ -50,9 +50,6 @@ well-formed d e =
       defined = rest .1;
     }
 
--- the mode's pixels and bytes fit 32 bits
-pub mode-fits : (d : Device) → WellFormed d → widthOf d * heightOf d ≤ 4096000
-mode-fits d w = mul-le-mul (w .width-high) (w .height-high)
-
+-- the mode's bytes fit 32 bits
 pub fb-size-fits : (d : Device) → WellFormed d → 4 * widthOf d * heightOf d ≤ 16384000
 fb-size-fits d w = mul-le-mul {n₂ = 10240} {m₂ = 1600} (omega arith) (w .height-high)

@@ -1,10 +1,9 @@
 -- The device: document 01, "What is lent". Fields are the code's; here are the fresh device, the test of a well-formed one, and the
 -- device with one part changed.
-use Prim.Native.Nat.{ℕ, _+_, _/_, _%_}
+use Prim.Native.Nat.{ℕ, _*_, _/_, _%_}
 use mathlib.Core.Bool.{Bool, true, false, cond, not, _&&_}
-use lib.Dec.{eqb, ltb, leb}
-use Rattle.ring.specs.declared.Ring.{Ring}
-use Rattle.cursor.specs.declared.Shape.{Shape}
+use lib.Dec.{eqb, leb}
+use Rattle.ring.specs.Waiting.{placed}
 use Rattle.cursor.specs.Plane.{shapeGood}
 use Rattle.device.specs.declared.Registers.{Registers}
 use Rattle.device.specs.declared.Plane.{Plane}
@@ -35,7 +34,7 @@ abbrev pub configuredOf : Device → Bool
 configuredOf d = d .registers .config
 
 abbrev pub definedOf : Device → Defined
-definedOf d = d .defined
+definedOf d = d .marks .defined
 
 abbrev pub conditionOf : Device → Condition
 conditionOf d = d .condition
@@ -67,27 +66,32 @@ fresh memory pixels = record {
   sizes = record { memory = memory; pixels = pixels };
   registers = freshRegisters;
   plane = record { shown = false; id = 0; x = 0; y = 0 };
-  defined = Undefined;
-  fence = 0;
+  marks = record { fence = 0; defined = Undefined };
   busy = false;
   condition = Idle;
 }
 
 -- ---- well-formed devices: a test that `make` meets and every call keeps
 
+-- "4 and 5 maximum width and height (2,560; 1,600)"
+abbrev pub maxWidth : ℕ
+maxWidth = 2560
+
+abbrev pub maxHeight : ℕ
+maxHeight = 1600
+
 -- "2 WIDTH (1 to 2,560), 3 HEIGHT (1 to 1,600)"
 unfoldable pub modeGood : ℕ → ℕ → Bool
-modeGood width height = leb 1 width && (leb width 2560 && (leb 1 height && leb height 1600))
+modeGood width height = leb 1 width && (leb width maxWidth && (leb 1 height && leb height maxHeight))
 
--- The remembered ring lies in the ring memory as acceptance asks; all in words.
-unfoldable pub ringGood : ℕ → Ring → Bool
-ringGood memory g =
-    leb 4 (g .min) && (leb (g .max) (memory / 4) && (leb (g .min + 2560) (g .max) && (leb (g .min) (g .stop) && ltb (g .stop) (g .max))))
+-- "width·height above P" is 24; otherwise the mode's rows fit framebuffer and screen.
+abbrev pub modeFits : Device → Bool
+modeFits d = leb (widthOf d * heightOf d) (pixelsOf d)
 
 -- A device with CONFIG_DONE 1 has a ring, or a fault that stands; with CONFIG_DONE 0 it has no ring.
 unfoldable pub conditionGood : ℕ → Bool → Condition → Bool
 conditionGood memory config Idle = not config
-conditionGood memory config (Running g) = cond config (ringGood memory g) false
+conditionGood memory config (Running g) = cond config (placed g (memory / 4)) false
 conditionGood memory config (Faulted c) = true
 
 -- The defined cursor is one that a command may define.
@@ -99,7 +103,7 @@ definedGood (Cursor s) = shapeGood s
 unfoldable pub made : Device → Bool
 made d =
     sizesGood (memoryOf d) (pixelsOf d)
-    && (modeGood (widthOf d) (heightOf d) && (conditionGood (memoryOf d) (d .registers .config) (d .condition) && definedGood (d .defined)))
+    && (modeGood (widthOf d) (heightOf d) && (conditionGood (memoryOf d) (d .registers .config) (d .condition) && definedGood (definedOf d)))
 
 -- ---- a device with one part changed
 
@@ -108,8 +112,7 @@ withRegisters d g = record {
   sizes = d .sizes;
   registers = g;
   plane = d .plane;
-  defined = d .defined;
-  fence = d .fence;
+  marks = d .marks;
   busy = d .busy;
   condition = d .condition;
 }
@@ -119,8 +122,7 @@ withPlane d p = record {
   sizes = d .sizes;
   registers = d .registers;
   plane = p;
-  defined = d .defined;
-  fence = d .fence;
+  marks = d .marks;
   busy = d .busy;
   condition = d .condition;
 }
@@ -130,8 +132,7 @@ withBusy d b = record {
   sizes = d .sizes;
   registers = d .registers;
   plane = d .plane;
-  defined = d .defined;
-  fence = d .fence;
+  marks = d .marks;
   busy = b;
   condition = d .condition;
 }
@@ -141,23 +142,7 @@ withCondition d c = record {
   sizes = d .sizes;
   registers = d .registers;
   plane = d .plane;
-  defined = d .defined;
-  fence = d .fence;
+  marks = d .marks;
   busy = d .busy;
   condition = c;
 }
-
-abbrev pub withDefined : Device → Defined → Device
-withDefined d c = record {
-  sizes = d .sizes;
-  registers = d .registers;
-  plane = d .plane;
-  defined = c;
-  fence = d .fence;
-  busy = d .busy;
-  condition = d .condition;
-}
-
--- The defined cursor's record. A shape that no command can define is not taken.
-unfoldable pub cursorDefined : Device → Shape → Device
-cursorDefined d s = cond (shapeGood s) (withDefined d (Cursor s)) d

@@ -1,11 +1,16 @@
-// The device: its parts, the test of a well-formed one, making, the defined cursor.
+// The device: its parts, the test of a well-formed one, making.
 use cursor::Defined;
-use cursor::Shape;
+use effect::Marks;
 use order::Cause;
 use ring::Ring;
 ghost use mathlib.Core.Path.{_≡_};
-ghost use Rattle.device.specs.Device.{sizesGood, modeGood, ringGood, conditionGood, definedGood, made, conditionOf, cursorDefined};
+ghost use Rattle.device.specs.Device.{sizesGood, modeGood, conditionGood, definedGood, made, modeFits, conditionOf};
 ghost use Rattle.device.specs.Making.{creation, madeOf};
+
+// The largest mode.
+pub const MAX_WIDTH: u32 = 2560;
+
+pub const MAX_HEIGHT: u32 = 1600;
 
 // M, the bytes of the ring memory, and P, the pixels of framebuffer and screen.
 pub struct Sizes {
@@ -45,8 +50,7 @@ pub struct Device {
     pub sizes: Sizes,
     pub registers: Registers,
     pub plane: Plane,
-    pub defined: Defined,
-    pub fence: u32,
+    pub marks: Marks,
     pub busy: bool,
     pub condition: Condition,
 }
@@ -82,31 +86,13 @@ fn mode_good(width: u32, height: u32) -> bool
     if width < 1 {
         return false;
     }
-    if 2560 < width {
+    if MAX_WIDTH < width {
         return false;
     }
     if height < 1 {
         return false;
     }
-    height <= 1600
-}
-
-fn ring_good(memory: u32, ring: Ring) -> bool
-    ensures { λ r. ⌜ r ≡ ringGood memory ring ⌝ }
-{
-    if ring.min < 4 {
-        return false;
-    }
-    if memory / 4 < ring.max {
-        return false;
-    }
-    if (ring.max as u64) < ring.min as u64 + 2560 {
-        return false;
-    }
-    if ring.stop < ring.min {
-        return false;
-    }
-    ring.stop < ring.max
+    height <= MAX_HEIGHT
 }
 
 fn condition_good(memory: u32, config: bool, condition: Condition) -> bool
@@ -118,7 +104,7 @@ fn condition_good(memory: u32, config: bool, condition: Condition) -> bool
         }
         Condition::Running(ring) => {
             if config {
-                return ring_good(memory, ring);
+                return ring::is_placed(ring, (memory / 4) as usize);
             }
             return false;
         }
@@ -161,11 +147,12 @@ pub fn is_made(d: Device) -> bool
     if !good_condition {
         return false;
     }
-    let defined = d.defined;
+    let marks = d.marks;
+    let defined = marks.defined;
     defined_good(defined)
 }
 
-// ---- making, defining, asking
+// ---- making, asking
 
 // A fresh device for a ring memory of memory bytes and pixels pixels.
 // Rules out: a device for a memory of 10,252 bytes; a fresh device that is enabled.
@@ -194,31 +181,28 @@ pub fn make(memory: u32, pixels: u32) -> Making
         x: 0,
         y: 0,
     };
+    let marks = Marks {
+        fence: 0,
+        defined: Defined::Undefined,
+    };
     Making::Made(Device {
         sizes: Sizes { memory, pixels },
         registers,
         plane,
-        defined: Defined::Undefined,
-        fence: 0,
+        marks,
         busy: false,
         condition: Condition::Idle,
     })
 }
 
-// The device with a cursor defined: its id, hotspot and size. The cursor's pixels are in the cursor image that calls lend.
-// For the run, which calls it after its own check, and for tests; no call of document 01.
-// Rules out: a cursor of 65 by 1 defined; a definition that shows a hidden cursor, or moves one.
-pub fn define_cursor(d: Device, shape: Shape) -> Device
-    ensures { λ r. ⌜ r ≡ cursorDefined d shape ⌝ }
+// Whether the mode's pixels are at most P.
+// Rules out: a mode of 65,536 by 65,536 that fits since its product wraps.
+pub fn mode_fits(d: Device) -> bool
+    ensures { λ r. ⌜ r ≡ modeFits d ⌝ }
 {
-    let good = cursor::shape_good(shape);
-    if !good {
-        return d;
-    }
-    Device {
-        defined: Defined::Cursor(shape),
-        ..d
-    }
+    let sizes = d.sizes;
+    let g = d.registers;
+    g.width as u64 * g.height as u64 <= sizes.pixels as u64
 }
 
 // The condition: idle, running with the remembered ring, or the fault that stands.

@@ -2,28 +2,25 @@
 -- Assumes nothing.
 use mathlib.Core.Path.{_≡_, ap, _∙_}
 use mathlib.Core.Bool.{Bool, true, cond}
-use mathlib.Core.List.{List}
-use Prim.Native.Nat.{ℕ, _*_}
-use lib.Dec.{leb}
-use lib.ListN.{length}
+use Prim.Native.Nat.{ℕ}
 use Rattle.device.specs.declared.Condition.{Condition}
 use Rattle.device.specs.declared.Device.{Device}
-use Rattle.device.specs.Device.{pixelsOf, widthOf, heightOf, made}
-use Rattle.device_run.specs.Run.{RunOutcome, lentGood, refusedRun, runBy, runOf}
+use Rattle.device.specs.Device.{modeFits, made}
+use Rattle.device_run.specs.Run.{Lent, RunOutcome, lentGood, refusedRun, runBy, runOf}
 
-pub run-by : (d : Device) (ring framebuffer screen cursor : List ℕ) (budget : ℕ) (c : Condition) → made d ≡ true
-    → lentGood d (length ring) (length framebuffer) (length screen) (length cursor) ≡ true → d .registers .config ≡ true → d .registers .enable ≡ true
-    → leb (widthOf d * heightOf d) (pixelsOf d) ≡ true → d .condition ≡ c → runOf d ring framebuffer screen cursor budget ≡ runBy d ring framebuffer screen cursor budget c
+pub run-by : (d : Device) (l : Lent) (budget : ℕ) (c : Condition) → made d ≡ true → lentGood d l ≡ true
+    → d .registers .config ≡ true → d .registers .enable ≡ true → modeFits d ≡ true → d .condition ≡ c
+    → runOf d l budget ≡ runBy d l budget c
 unfolding runOf
-run-by d ring framebuffer screen cursor budget c good lent config enable fits is =
-    let not-run : ℕ → RunOutcome = refusedRun d ring framebuffer screen cursor in
-    let by-mode : Bool → RunOutcome = λ t. cond t (runBy d ring framebuffer screen cursor budget (d .condition)) (not-run 24) in
-    let by-enable : Bool → RunOutcome = λ t. cond t (by-mode (leb (widthOf d * heightOf d) (pixelsOf d))) (not-run 21) in
+run-by d l budget c good long config enable fits is =
+    let not-run : ℕ → RunOutcome = refusedRun d l in
+    let by-mode : Bool → RunOutcome = λ t. cond t (runBy d l budget (d .condition)) (not-run 24) in
+    let by-enable : Bool → RunOutcome = λ t. cond t (by-mode (modeFits d)) (not-run 21) in
     let by-config : Bool → RunOutcome = λ t. cond t (by-enable (d .registers .enable)) (not-run 22) in
     let by-length : Bool → RunOutcome = λ t. cond t (by-config (d .registers .config)) (not-run 20) in
-    ap (λ (t : Bool). cond t (by-length (lentGood d (length ring) (length framebuffer) (length screen) (length cursor))) (not-run 22)) good
-    ∙ ap by-length lent
+    ap (λ (t : Bool). cond t (by-length (lentGood d l)) (not-run 22)) good
+    ∙ ap by-length long
     ∙ ap by-config config
     ∙ ap by-enable enable
     ∙ ap by-mode fits
-    ∙ ap (runBy d ring framebuffer screen cursor budget) is
+    ∙ ap (runBy d l budget) is

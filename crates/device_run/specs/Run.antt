@@ -1,22 +1,26 @@
 -- A run of a device: document 01, "One command out of the ring" and "Answer numbers".
-use Prim.Native.Nat.{ℕ, _*_, _/_}
+use Prim.Native.Nat.{ℕ, _/_}
+use mathlib.Core.Path.{_≡_}
 use mathlib.Core.Bool.{Bool, false, cond, _&&_}
 use mathlib.Core.List.{List}
-use lib.Dec.{eqb, leb}
+use lib.Dec.{eqb}
 use lib.ListN.{length}
+use denote.Ref.{RefT, now}
+use denote.Triple.Both.{Both}
 use Rattle.order.specs.declared.End.the-variants.{Drained, Waiting, Fault}
 use Rattle.order.specs.Straight.{endNumber}
 use Rattle.order.specs.Claim.{Answer, spent, standing, ended, answerNumber}
 use Rattle.ring.specs.declared.Ring.{Ring}
-use Rattle.effect.specs.Effects.{Machine}
-use Rattle.run.specs.Run.{Outcome, scene, machine, runIn}
+use Rattle.effect.specs.Effects.{scene, Machine}
+use Rattle.run.specs.declared.Ran as R
+use Rattle.run.specs.Run.{Outcome, outcome, machine, runIn}
 use Rattle.device.specs.declared.Condition.{Condition}
 use Rattle.device.specs.declared.Condition.the-variants.{Idle, Running, Faulted}
 use Rattle.device.specs.declared.Device.{Device}
 use Rattle.device_run.specs.declared.Ran.{Ran}
 use Rattle.device_run.specs.declared.RunAnswer.{RunAnswer}
 use Rattle.device_run.specs.declared.RunAnswer.the-variants.{Spent, Ended, WrongLength, Disabled, NotConfigured, FaultStands, TooLarge}
-use Rattle.device.specs.Device.{memoryOf, pixelsOf, widthOf, heightOf, enabledOf, configuredOf, made}
+use Rattle.device.specs.Device.{memoryOf, pixelsOf, widthOf, heightOf, enabledOf, configuredOf, modeFits, made}
 
 -- run: 0 drained, 1 waiting for the rest of a command, 2 budget spent, 10 to 13 a fault, 20 lent length, 21 disabled, 22 not configured, 23 fault
 -- already standing, 24 width·height above P
@@ -29,36 +33,53 @@ runNumber NotConfigured = 22
 runNumber FaultStands = 23
 runNumber TooLarge = 24
 
--- A run answers a number and "the number of commands consumed in this run", and leaves a device, the ring memory, the screen and the cursor image.
+-- "Calls lend 32-bit words: the ring memory (M/4 words), the framebuffer (P), the screen (P), the cursor image (4,096)"
+pub record Lent : Type 0 where
+  pub ring : List ℕ
+  pub framebuffer : List ℕ
+  pub screen : List ℕ
+  pub cursor : List ℕ
+
+abbrev pub lent : List ℕ → List ℕ → List ℕ → List ℕ → Lent
+lent ring framebuffer screen cursor = record { ring = ring; framebuffer = framebuffer; screen = screen; cursor = cursor }
+
+-- The same with another ring memory, and with another framebuffer.
+abbrev pub withRing : Lent → List ℕ → Lent
+withRing l ring = lent ring (l .framebuffer) (l .screen) (l .cursor)
+
+abbrev pub withFramebuffer : Lent → List ℕ → Lent
+withFramebuffer l framebuffer = lent (l .ring) framebuffer (l .screen) (l .cursor)
+
+-- A lent slice of words as a contract has it: at the call's entry, and at its exit.
+abbrev pub Slice : Type 0
+Slice = Both (RefT (List ℕ)) (RefT (List ℕ))
+
+-- What a call is lent, and what it leaves of that. A slice that is lent for reading is the same at exit.
+abbrev pub lentBefore : Slice → Slice → Slice → Slice → Lent
+lentBefore ring framebuffer screen cursor = lent (now (ring .entry)) (now (framebuffer .entry)) (now (screen .entry)) (now (cursor .entry))
+
+abbrev pub lentAfter : Slice → Slice → Slice → Slice → Lent
+lentAfter ring framebuffer screen cursor = lent (now (ring .exit)) (now (framebuffer .exit)) (now (screen .exit)) (now (cursor .exit))
+
+-- A run answers a number and "the number of commands consumed in this run", and leaves a device and the lent memories.
 pub record RunOutcome : Type 0 where
   pub answer : ℕ
   pub count : ℕ
   pub device : Device
-  pub ring : List ℕ
-  pub screen : List ℕ
-  pub cursor : List ℕ
+  pub lent : Lent
 
-abbrev pub ranOf : Ran → List ℕ → List ℕ → List ℕ → RunOutcome
-ranOf r ring screen cursor = record {
-  answer = runNumber (r .answer);
-  count = r .count;
-  device = r .device;
-  ring = ring;
-  screen = screen;
-  cursor = cursor;
-}
+abbrev pub ranOf : Ran → Lent → RunOutcome
+ranOf r l = record { answer = runNumber (r .answer); count = r .count; device = r .device; lent = l }
 
 -- "the ring memory (M/4 words), the framebuffer (P), the screen (P), the cursor image (4,096)"
-unfoldable pub lentGood : Device → ℕ → ℕ → ℕ → ℕ → Bool
-lentGood d ring framebuffer screen cursor =
-    eqb ring (memoryOf d / 4) && (eqb framebuffer (pixelsOf d) && (eqb screen (pixelsOf d) && eqb cursor 4096))
+unfoldable pub lentGood : Device → Lent → Bool
+lentGood d l =
+    eqb (length (l .ring)) (memoryOf d / 4)
+    && (eqb (length (l .framebuffer)) (pixelsOf d) && (eqb (length (l .screen)) (pixelsOf d) && eqb (length (l .cursor)) 4096))
 
 -- Whether a run is refused with neither 20, 21, 22 nor 24: what is left of its refusals is 23, a standing fault.
-unfoldable pub ready : Device → ℕ → ℕ → ℕ → ℕ → Bool
-ready d ring framebuffer screen cursor =
-    made d
-    && (lentGood d ring framebuffer screen cursor
-    && (configuredOf d && (enabledOf d && leb (widthOf d * heightOf d) (pixelsOf d))))
+unfoldable pub ready : Device → Lent → Bool
+ready d l = made d && (lentGood d l && (configuredOf d && (enabledOf d && modeFits d)))
 
 -- "A fault consumes nothing of its command and stands until CONFIG_DONE 1 is accepted"; else the ring is remembered with STOP as the run left it.
 unfoldable pub conditionAfter : Answer → Ring → Condition
@@ -80,45 +101,47 @@ settled d o = record {
   sizes = d .sizes;
   registers = d .registers;
   plane = d .plane;
-  defined = o .machine .marks .defined;
-  fence = o .machine .marks .fence;
+  marks = o .machine .marks;
   busy = busyAfter (o .answer) (d .busy);
   condition = conditionAfter (o .answer) (o .place);
 }
 
 -- The machine of straight execution that a device and the lent memories hold.
-abbrev pub machineOf : Device → List ℕ → List ℕ → Machine
-machineOf d screen cursor = machine (record { fence = d .fence; defined = d .defined }) screen cursor
+abbrev pub machineOf : Device → Lent → Machine
+machineOf d l = machine (d .marks) (l .screen) (l .cursor)
 
-abbrev pub ran : Device → Outcome → RunOutcome
-ran d o = record {
-  answer = answerNumber (o .answer);
-  count = o .count;
-  device = settled d o;
-  ring = o .ring;
-  screen = o .machine .screen;
-  cursor = o .machine .cursor;
-}
+-- What a run leaves of the lent memories: "framebuffer never".
+abbrev pub leftOf : Lent → Outcome → Lent
+leftOf l o = lent (o .ring) (l .framebuffer) (o .machine .screen) (o .machine .cursor)
 
-module _ (d : Device) (ring framebuffer screen cursor : List ℕ) where
+abbrev pub ran : Device → Lent → Outcome → RunOutcome
+ran d l o = record { answer = answerNumber (o .answer); count = o .count; device = settled d o; lent = leftOf l o }
+
+-- A run's answer and the device then, from what `run::run` gives, whatever memories it left.
+abbrev pub Settles : Device → R.Ran → Ran → Type 0
+Settles d result r =
+    (l : Lent) (ring screen cursor : List ℕ) → ranOf r (lent ring (l .framebuffer) screen cursor) ≡ ran d l (outcome result ring screen cursor)
+
+module _ (d : Device) (l : Lent) where
   -- "Answers 20 to 34 change nothing; a run's count is then 0"
   abbrev pub refusedRun : ℕ → RunOutcome
-  refusedRun answer = record { answer = answer; count = 0; device = d; ring = ring; screen = screen; cursor = cursor }
+  refusedRun answer = record { answer = answer; count = 0; device = d; lent = l }
 
   -- "23: fault already standing". A device that is configured has a ring or a fault.
   unfoldable pub runBy : ℕ → Condition → RunOutcome
   runBy budget Idle = refusedRun 22
-  runBy budget (Running g) = ran d (runIn (scene (widthOf d) (heightOf d) framebuffer) g budget ring (machineOf d screen cursor))
+  runBy budget (Running g) =
+      ran d l (runIn (scene (widthOf d) (heightOf d) (l .framebuffer)) g budget (l .ring) (machineOf d l))
   runBy budget (Faulted c) = refusedRun 23
 
   -- "A run checks 20, 22, 21, 24, 23 in that order". A device that no call can have made answers 22.
   unfoldable pub runOf : ℕ → RunOutcome
   runOf budget =
       cond (made d)
-      (cond (lentGood d (length ring) (length framebuffer) (length screen) (length cursor))
+      (cond (lentGood d l)
       (cond (d .registers .config)
       (cond (d .registers .enable)
-      (cond (leb (widthOf d * heightOf d) (pixelsOf d)) (runBy budget (d .condition)) (refusedRun 24))
+      (cond (modeFits d) (runBy budget (d .condition)) (refusedRun 24))
       (refusedRun 21))
       (refusedRun 22))
       (refusedRun 20))

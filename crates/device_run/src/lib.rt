@@ -2,17 +2,16 @@
 use device::Condition;
 use device::Device;
 use device::is_made;
-use effect::Marks;
+use device::mode_fits;
 use order::End;
 use ring::Ring;
 use run::Answer;
-ghost use mathlib.Core.List.{List};
-ghost use Prim.Native.Nat.{ℕ};
 ghost use Rattle.order.specs.Claim.{ended, answerNumber};
-ghost use Rattle.run.specs.Run.{answerOf, outcome as after};
+ghost use Rattle.run.specs.Run.{answerOf};
 ghost use Rattle.device.specs.declared.Condition.the-variants.{Running};
 ghost use mathlib.Core.Path.{_≡_};
-ghost use Rattle.device_run.specs.Run.{runNumber, ranOf, lentGood, ready, conditionAfter, busyAfter, ran, runBy, runOf};
+ghost use Rattle.device_run.specs.Run.{runNumber, lentBefore, lentAfter, ranOf, lentGood, ready};
+ghost use Rattle.device_run.specs.Run.{conditionAfter, busyAfter, Settles, runBy, runOf};
 
 pub enum RunAnswer {
     Spent,
@@ -61,21 +60,21 @@ fn refused(d: Device, answer: RunAnswer) -> Ran
     }
 }
 
-fn lent_good(d: Device, ring: usize, framebuffer: usize, screen: usize, cursor: usize) -> bool
-    ensures { λ r. ⌜ r ≡ lentGood d ring framebuffer screen cursor ⌝ }
+fn lent_good(d: Device, ring: &[u32], framebuffer: &[u32], screen: &[u32], cursor: &[u32]) -> bool
+    ensures { λ r. ⌜ r ≡ lentGood d (lentBefore ring framebuffer screen cursor) ⌝ }
 {
     let sizes = d.sizes;
     let pixels = sizes.pixels as usize;
-    if ring != (sizes.memory / 4) as usize {
+    if ring.len() != (sizes.memory / 4) as usize {
         return false;
     }
-    if framebuffer != pixels {
+    if framebuffer.len() != pixels {
         return false;
     }
-    if screen != pixels {
+    if screen.len() != pixels {
         return false;
     }
-    cursor == 4096
+    cursor.len() == 4096
 }
 
 fn condition_at(end: End, ring: Ring) -> Condition
@@ -118,19 +117,17 @@ fn answer_of(answer: Answer) -> RunAnswer
 
 // The device after a run.
 fn settle(d: Device, result: run::Ran) -> Ran
-    ensures { λ r. ⌜ ((ring screen cursor : List ℕ) → ranOf r ring screen cursor ≡ ran d (after result ring screen cursor)) ⌝ }
+    ensures { λ r. ⌜ Settles d result r ⌝ }
 {
     let answer = result.answer;
     let marks = result.marks;
-    let defined = marks.defined;
     let condition = condition_after(answer, result.ring);
     let busy = busy_after(answer, d.busy);
     Ran {
         answer: answer_of(answer),
         count: result.count,
         device: Device {
-            defined,
-            fence: marks.fence,
+            marks,
             busy,
             condition,
             ..d
@@ -148,14 +145,10 @@ fn run_ring(
     cursor: &mut [u32],
     budget: u32,
 ) -> Ran
-    ensures { λ r. ⌜ ranOf r (now (ring .exit)) (now (screen .exit)) (now (cursor .exit)) ≡ runBy d (now (ring .entry)) (now (framebuffer .entry)) (now (screen .entry)) (now (cursor .entry)) budget (Running at) ⌝ }
+    ensures { λ r. ⌜ ranOf r (lentAfter ring framebuffer screen cursor) ≡ runBy d (lentBefore ring framebuffer screen cursor) budget (Running at) ⌝ }
 {
     let g = d.registers;
-    let defined = d.defined;
-    let marks = Marks {
-        fence: d.fence,
-        defined,
-    };
+    let marks = d.marks;
     let result = run::run(
         at,
         marks,
@@ -180,13 +173,13 @@ pub fn run(
     cursor: &mut [u32],
     budget: u32,
 ) -> Ran
-    ensures { λ r. ⌜ ranOf r (now (ring .exit)) (now (screen .exit)) (now (cursor .exit)) ≡ runOf d (now (ring .entry)) (now (framebuffer .entry)) (now (screen .entry)) (now (cursor .entry)) budget ⌝ }
+    ensures { λ r. ⌜ ranOf r (lentAfter ring framebuffer screen cursor) ≡ runOf d (lentBefore ring framebuffer screen cursor) budget ⌝ }
 {
     let good = is_made(d);
     if !good {
         return refused(d, RunAnswer::NotConfigured);
     }
-    let lent = lent_good(d, ring.len(), framebuffer.len(), screen.len(), cursor.len());
+    let lent = lent_good(d, ring, framebuffer, screen, cursor);
     if !lent {
         return refused(d, RunAnswer::WrongLength);
     }
@@ -197,8 +190,8 @@ pub fn run(
     if !g.enable {
         return refused(d, RunAnswer::Disabled);
     }
-    let sizes = d.sizes;
-    if (sizes.pixels as usize) < g.width as usize * g.height as usize {
+    let fits = mode_fits(d);
+    if !fits {
         return refused(d, RunAnswer::TooLarge);
     }
     let condition = d.condition;
@@ -209,10 +202,16 @@ pub fn run(
     }
 }
 
-// Whether a run with these lent lengths is refused with neither 20, 21, 22 nor 24.
+// Whether a run with these lent memories is refused with neither 20, 21, 22 nor 24.
 // Rules out: a disabled device that is ready; a device whose mode is larger than the screen.
-pub fn is_ready(d: Device, ring: usize, framebuffer: usize, screen: usize, cursor: usize) -> bool
-    ensures { λ r. ⌜ r ≡ ready d ring framebuffer screen cursor ⌝ }
+pub fn is_ready(
+    d: Device,
+    ring: &[u32],
+    framebuffer: &[u32],
+    screen: &[u32],
+    cursor: &[u32],
+) -> bool
+    ensures { λ r. ⌜ r ≡ ready d (lentBefore ring framebuffer screen cursor) ⌝ }
 {
     let good = is_made(d);
     if !good {
@@ -225,8 +224,7 @@ pub fn is_ready(d: Device, ring: usize, framebuffer: usize, screen: usize, curso
     let g = d.registers;
     if g.config {
         if g.enable {
-            let sizes = d.sizes;
-            return g.width * g.height <= sizes.pixels;
+            return mode_fits(d);
         }
     }
     false

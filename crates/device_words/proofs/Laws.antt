@@ -10,9 +10,8 @@ use borrow.Author.Tests.{eq-eqb, ne-eqb}
 use native.Mathlib.Omega.{arith}
 use native.Mathlib.Nat.{not-suc-le-zero, le-of-suc-le-suc}
 use Rattle.device.specs.declared.Device.{Device}
-use Rattle.device.specs.Device.{made}
 use Rattle.device_words.specs.declared.Held.the-variants.{Device as Holds, Nothing}
-use Rattle.device_words.specs.Words.{wordsOf, deviceFrom, same, heldIn}
+use Rattle.device_words.specs.Words.{wordsOf, deviceFrom, same, spelledIn}
 
 -- One word more agrees exactly if all before it do and it does.
 same-snoc : (a w : List ℕ) (i : ℕ) → i < length a → i < length w
@@ -59,14 +58,10 @@ paste-whole d s n hd hs =
 -- ---- the device in lent words
 
 module _ (w : List ℕ) (d : Device) (whole : length w ≡ 64) (from : d ≡ deviceFrom w) where
-  pub held-not-made : (m : Bool) → m ≡ made d → m ≡ false → heldIn w ≡ Nothing
-  unfolding heldIn
-  held-not-made m e f = rw (eq-eqb (length w) 64 whole, ← from, ← e, f)
+  pub spelled-other : (k : Bool) → k ≡ same (wordsOf d) w → k ≡ false → spelledIn w ≡ Nothing
+  unfolding spelledIn
+  spelled-other k e f = rw (eq-eqb (length w) 64 whole, ← from, ← e, f)
 
-  pub held-other : made d ≡ true → (k : Bool) → k ≡ same (wordsOf d) w → k ≡ false → heldIn w ≡ Nothing
-  unfolding heldIn
-  held-other m k e f = rw (eq-eqb (length w) 64 whole, ← from, m, ← e, f)
-
-  pub held : made d ≡ true → (k : Bool) → k ≡ same (wordsOf d) w → k ≡ true → heldIn w ≡ Holds d
-  unfolding heldIn
-  held m k e f = rw (eq-eqb (length w) 64 whole, ← from, m, ← e, f)
+  pub spelled : (k : Bool) → k ≡ same (wordsOf d) w → k ≡ true → spelledIn w ≡ Holds d
+  unfolding spelledIn
+  spelled k e f = rw (eq-eqb (length w) 64 whole, ← from, ← e, f)

@@ -18,7 +18,7 @@ use Rattle.device.specs.Device.{made}
 use Rattle.register_read.specs.Registers.{bit}
 use Rattle.device_words.specs.declared.Held.{Held}
 use Rattle.device_words.specs.declared.Held.the-variants.{Device as Holds, Nothing}
-use Rattle.device_words.specs.Words.{definedParts, conditionParts, wordsOf, definedFrom, conditionFrom, deviceFrom, same, heldIn}
+use Rattle.device_words.specs.Words.{definedParts, conditionParts, wordsOf, definedFrom, conditionFrom, deviceFrom, same, spelledIn, heldIn}
 
 bit-back : (b : Bool) → eqb (bit b) 1 ≡ b
 bit-back true = refl
@@ -41,7 +41,7 @@ condition-back (Faulted BadNext) = refl
 device-back : (d : Device) → deviceFrom (wordsOf d) ≡ d
 unfolding deviceFrom wordsOf
 device-back d =
-    rw (bit-back (d .registers .enable), bit-back (d .registers .config), bit-back (d .plane .shown), bit-back (d .busy), defined-back (d .defined), condition-back (d .condition))
+    rw (bit-back (d .registers .enable), bit-back (d .registers .config), bit-back (d .plane .shown), bit-back (d .busy), defined-back (d .marks .defined), condition-back (d .condition))
 
 same-itself : (l : List ℕ) → same l l ≡ true
 same-itself [] = refl
@@ -61,8 +61,8 @@ words-count d = refl
 
 -- "Reading back what was written gives the same device."
 pub read-back : (d : Device) → made d ≡ true → heldIn (wordsOf d) ≡ Holds d
-unfolding heldIn
-read-back d m = rw (eq-eqb _ _ (words-count d), device-back d, m, same-itself (wordsOf d))
+unfolding heldIn spelledIn
+read-back d m = rw (eq-eqb _ _ (words-count d), device-back d, same-itself (wordsOf d), m)
 
 -- Lent words that hold a device are its own 64 words, and the device is well-formed: nothing in them is left unread.
 pub record HeldBy (w : List ℕ) (d : Device) : Type 0 where
@@ -74,15 +74,30 @@ none-held : (d : Device) {P : Type 0} → _≡_ {A = Held} Nothing (Holds d) →
 none-held d e = absurd (true≢false cc)
 
 pub held-words : (w : List ℕ) (d : Device) → heldIn w ≡ Holds d → HeldBy w d
-unfolding heldIn
+unfolding heldIn spelledIn
 held-words w d e =
     cases (eqb (length w) 64)
-    (λ n. cases (made (deviceFrom w))
-    (λ m. cases (same (wordsOf (deviceFrom w)) w)
-    (λ k.
-    let h : Holds (deviceFrom w) ≡ Holds d = rw (n, m, k) at e in
+    (λ n. cases (same (wordsOf (deviceFrom w)) w)
+    (λ k. cases (made (deviceFrom w))
+    (λ m.
+    let h : Holds (deviceFrom w) ≡ Holds d = rw (n, k, m) at e in
     let f : deviceFrom w ≡ d = cc in
     record { count = eqb-true _ _ n; is-made = rw f at m; its-words = same-equal _ _ (rw f at k) })
-    (λ k. none-held d (rw (n, m, k) at e)))
-    (λ m. none-held d (rw (n, m) at e)))
+    (λ m. none-held d (rw (n, k, m) at e)))
+    (λ k. none-held d (rw (n, k) at e)))
     (λ n. none-held d (rw n at e))
+
+-- What words spell and what they hold: the same, but for a device that no call can have made. So a call may read what they spell, if it answers for such a
+-- device what it answers for none.
+pub by-held : (w : List ℕ) (P : Held → Held → Type 0)
+    → ((d : Device) → P (Holds d) (Holds d)) → ((d : Device) → made d ≡ false → wordsOf d ≡ w → P (Holds d) Nothing) → P Nothing Nothing
+    → P (spelledIn w) (heldIn w)
+unfolding heldIn spelledIn
+by-held w P good unmade none =
+    cases (eqb (length w) 64)
+    (λ n. cases (same (wordsOf (deviceFrom w)) w)
+    (λ k. cases (made (deviceFrom w))
+    (λ m. rw (n, k, m) (good (deviceFrom w)))
+    (λ m. rw (n, k, m) (unmade (deviceFrom w) m (same-equal _ _ k))))
+    (λ k. rw (n, k) none))
+    (λ n. rw n none)

@@ -58,11 +58,11 @@ settingWords d rest = d .sizes .memory ∷ d .sizes .pixels ∷ registerWords (d
 unfoldable pub wordsOf : Device → List ℕ
 wordsOf d =
     settingWords d
-    (definedWords (definedParts (d .defined)) (d .fence ∷ bit (d .busy) ∷ conditionWords (conditionParts (d .condition)) (replicate 36 0)))
+    (definedWords (definedParts (d .marks .defined)) (d .marks .fence ∷ bit (d .busy) ∷ conditionWords (conditionParts (d .condition)) (replicate 36 0)))
 
 -- ---- from words to a device
 
--- A bit, a tag or a word that no device has is taken for another; `heldIn` sees that by the words of the device then.
+-- A bit, a tag or a word that no device has is taken for another; `spelledIn` sees that by the words of the device then.
 unfoldable pub definedFrom : ℕ → Shape → Defined
 definedFrom tag s = cond (eqb tag 1) (Cursor s) Undefined
 
@@ -94,8 +94,7 @@ deviceFrom w = record {
   sizes = record { memory = getD w 0 0; pixels = getD w 1 0 };
   registers = registersFrom w;
   plane = record { shown = eqb (getD w 12 0) 1; id = getD w 13 0; x = getD w 14 0; y = getD w 15 0 };
-  defined = definedFrom (getD w 16 0) (shapeFrom w);
-  fence = getD w 22 0;
+  marks = record { fence = getD w 22 0; defined = definedFrom (getD w 16 0) (shapeFrom w) };
   busy = eqb (getD w 23 0) 1;
   condition = conditionFrom (getD w 24 0) (record { min = getD w 25 0; max = getD w 26 0; stop = getD w 27 0 });
 }
@@ -108,12 +107,18 @@ same [] (y ∷ b) = false
 same (x ∷ a) [] = false
 same (x ∷ a) (y ∷ b) = eqb x y && same a b
 
+-- The words spell a device: they are its own 64 words. It may be one that no call can have made.
+unfoldable pub spelledIn : List ℕ → Held
+spelledIn w = cond (eqb (length w) 64) (cond (same (wordsOf (deviceFrom w)) w) (Holds (deviceFrom w)) Nothing) Nothing
+
+-- Of devices the well-formed.
+abbrev pub wellFormed : Held → Held
+wellFormed (Holds d) = cond (made d) (Holds d) Nothing
+wellFormed Nothing = Nothing
+
 -- The one test of lent words: they are the words of a device, and a well-formed one. Any others hold none.
 unfoldable pub heldIn : List ℕ → Held
-heldIn w =
-    cond (eqb (length w) 64)
-    (cond (made (deviceFrom w)) (cond (same (wordsOf (deviceFrom w)) w) (Holds (deviceFrom w)) Nothing) Nothing)
-    Nothing
+heldIn w = wellFormed (spelledIn w)
 
 -- A device written into 64 lent words; any other length is left as it is.
 unfoldable pub putIn : List ℕ → Device → List ℕ

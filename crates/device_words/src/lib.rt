@@ -6,6 +6,7 @@ use adapter::Registers;
 use adapter::Sizes;
 use cursor::Defined;
 use cursor::Shape;
+use effect::Marks;
 use order::Cause;
 use ring::Ring;
 ghost use mathlib.Core.Path.{_≡_};
@@ -13,7 +14,7 @@ ghost use mathlib.Core.Bool.{cond};
 ghost use lib.Dec.{eqb};
 ghost use lib.ListN.{length, replicate};
 ghost use Rattle.register_read.specs.Registers.{bit};
-ghost use Rattle.device_words.specs.Words.{definedParts, conditionParts, settingWords, wordsOf, definedFrom, conditionFrom, deviceFrom, same, heldIn, putIn};
+ghost use Rattle.device_words.specs.Words.{definedParts, conditionParts, settingWords, wordsOf, definedFrom, conditionFrom, deviceFrom, same, spelledIn, putIn};
 
 // The device in lent words, or none.
 pub enum Held {
@@ -118,7 +119,8 @@ fn settings_of(d: Device) -> [u32; 64]
 fn words_of(d: Device) -> [u32; 64]
     ensures { λ r. ⌜ r ≡ wordsOf d ⌝ }
 {
-    let defined = d.defined;
+    let marks = d.marks;
+    let defined = marks.defined;
     let cursor = defined_words(defined);
     let shape = cursor.shape;
     let condition = d.condition;
@@ -131,7 +133,7 @@ fn words_of(d: Device) -> [u32; 64]
     w[19] = shape.hoty;
     w[20] = shape.w;
     w[21] = shape.h;
-    w[22] = d.fence;
+    w[22] = marks.fence;
     w[23] = bit_of(d.busy);
     w[24] = state.tag;
     w[25] = ring.min;
@@ -205,6 +207,10 @@ fn device_from(w: &[u32]) -> Device
         w: w[20],
         h: w[21],
     };
+    let marks = Marks {
+        fence: w[22],
+        defined: defined_from(w[16], shape),
+    };
     let ring = Ring {
         min: w[25],
         max: w[26],
@@ -214,8 +220,7 @@ fn device_from(w: &[u32]) -> Device
         sizes,
         registers,
         plane,
-        defined: defined_from(w[16], shape),
-        fence: w[22],
+        marks,
         busy: w[23] == 1,
         condition: condition_from(w[24], ring),
     }
@@ -246,19 +251,15 @@ fn are_same(a: &[u32], w: &[u32]) -> bool
     n == 0
 }
 
-// The device in the lent words.
-// Rules out: a device in 63 words; a device where a spare word is not 0; a mode of 2,561 pixels to a row taken over.
-pub fn held_in(w: &[u32]) -> Held
-    ensures { λ r. ⌜ r ≡ heldIn (now (w .entry)) ⌝ }
+// The device that the lent words spell. Whether it is well-formed its callers test.
+// Rules out: a device in 63 words; a device where a spare word is not 0.
+pub fn spelled_in(w: &[u32]) -> Held
+    ensures { λ r. ⌜ r ≡ spelledIn (now (w .entry)) ⌝ }
 {
     if w.len() != 64 {
         return Held::Nothing;
     }
     let d = device_from(w);
-    let made = adapter::is_made(d);
-    if !made {
-        return Held::Nothing;
-    }
     let words = words_of(d);
     let known = are_same(&words, w);
     if !known {

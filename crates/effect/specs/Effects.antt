@@ -3,39 +3,58 @@
 use Prim.Native.Nat.{ℕ, _*_}
 use mathlib.Core.List.{List, _++_}
 use lib.ListN.{take, drop}
+use Rattle.cursor.specs.declared.Defined.{Defined}
 use Rattle.cursor.specs.declared.Defined.the-variants.{Cursor}
-use Rattle.command.specs.declared.Kind.{Kind}
-use Rattle.command.specs.declared.Kind.the-variants as K
-use Rattle.command.specs.declared.Head.{Head}
 use Rattle.command.specs.declared.Action.{Action}
 use Rattle.command.specs.declared.Action.the-variants.{Update, Fill, Copy, Define, Fence, Nothing}
 use Rattle.raster.specs.Painters.{filled, updated, copied}
 use Rattle.effect.specs.declared.Marks.{Marks}
 
--- "UPDATE brings framebuffer pixels to the screen; fills and copies act on the screen alone". Rectangles are cut to width by rows.
-unfoldable pub screenAfter : ℕ → ℕ → List ℕ → Action → List ℕ → List ℕ
-screenAfter width rows framebuffer (Update r) screen = updated width rows r framebuffer screen
-screenAfter width rows framebuffer (Fill r colour rop) screen = filled width rows r colour rop screen
-screenAfter width rows framebuffer (Copy from r rop) screen = copied width rows (from .x) (from .y) r rop screen
-screenAfter width rows framebuffer (Define s) screen = screen
-screenAfter width rows framebuffer (Fence number) screen = screen
-screenAfter width rows framebuffer Nothing screen = screen
+-- What a run does not change: the mode, of width by rows, and the framebuffer.
+pub record Scene : Type 0 where
+  pub width : ℕ
+  pub rows : ℕ
+  pub framebuffer : List ℕ
 
--- "Fence: the last number executed." A cursor command defines id, hotspot and size.
-unfoldable pub marksAfter : Action → Marks → Marks
-marksAfter (Update r) m = m
-marksAfter (Fill r colour rop) m = m
-marksAfter (Copy from r rop) m = m
-marksAfter (Define s) m = record { fence = m .fence; defined = Cursor s }
-marksAfter (Fence number) m = record { fence = number; defined = m .defined }
-marksAfter Nothing m = m
+abbrev pub scene : ℕ → ℕ → List ℕ → Scene
+scene width rows framebuffer = record { width = width; rows = rows; framebuffer = framebuffer }
+
+-- "UPDATE brings framebuffer pixels to the screen; fills and copies act on the screen alone". Rectangles are cut to the mode.
+unfoldable pub screenAfter : Scene → Action → List ℕ → List ℕ
+screenAfter s (Update r) screen = updated (s .width) (s .rows) r (s .framebuffer) screen
+screenAfter s (Fill r colour rop) screen = filled (s .width) (s .rows) r colour rop screen
+screenAfter s (Copy from r rop) screen = copied (s .width) (s .rows) (from .x) (from .y) r rop screen
+screenAfter s (Define shape) screen = screen
+screenAfter s (Fence number) screen = screen
+screenAfter s Nothing screen = screen
+
+-- "Fence: the last number executed."
+unfoldable pub fenceAfter : Action → ℕ → ℕ
+fenceAfter (Update r) fence = fence
+fenceAfter (Fill r colour rop) fence = fence
+fenceAfter (Copy from r rop) fence = fence
+fenceAfter (Define shape) fence = fence
+fenceAfter (Fence number) fence = number
+fenceAfter Nothing fence = fence
+
+-- A cursor command defines id, hotspot and size.
+unfoldable pub definedAfter : Action → Defined → Defined
+definedAfter (Update r) defined = defined
+definedAfter (Fill r colour rop) defined = defined
+definedAfter (Copy from r rop) defined = defined
+definedAfter (Define shape) defined = Cursor shape
+definedAfter (Fence number) defined = defined
+definedAfter Nothing defined = defined
+
+abbrev pub marksAfter : Action → Marks → Marks
+marksAfter action m = record { fence = fenceAfter action (m .fence); defined = definedAfter action (m .defined) }
 
 -- "Its pixels fill the first w·h cursor words, row by row; the rest stay." They stand behind the six words of the command's head.
 unfoldable pub cursorAfter : Action → List ℕ → List ℕ → List ℕ
 cursorAfter (Update r) words cursor = cursor
 cursorAfter (Fill r colour rop) words cursor = cursor
 cursorAfter (Copy from r rop) words cursor = cursor
-cursorAfter (Define s) words cursor = take (s .w * s .h) (drop 6 words) ++ drop (s .w * s .h) cursor
+cursorAfter (Define shape) words cursor = take (shape .w * shape .h) (drop 6 words) ++ drop (shape .w * shape .h) cursor
 cursorAfter (Fence number) words cursor = cursor
 cursorAfter Nothing words cursor = cursor
 
@@ -45,23 +64,10 @@ pub record Machine : Type 0 where
   pub cursor : List ℕ
   pub marks : Marks
 
--- What an action with its command's words leaves of a machine, in a mode of width by rows and with this framebuffer.
-unfoldable pub done : ℕ → ℕ → List ℕ → Action → List ℕ → Machine → Machine
-done width rows framebuffer action words m = record {
-  screen = screenAfter width rows framebuffer action (m .screen);
+-- What an action with its command's words leaves of a machine.
+unfoldable pub done : Scene → Action → List ℕ → Machine → Machine
+done s action words m = record {
+  screen = screenAfter s action (m .screen);
   cursor = cursorAfter action words (m .cursor);
   marks = marksAfter action (m .marks);
 }
-
--- The fence that a plain command leaves, by its head.
-unfoldable pub fenceAfter : Kind → Head → ℕ → ℕ
-fenceAfter K.Update h fence = fence
-fenceAfter K.RectFill h fence = fence
-fenceAfter K.RectCopy h fence = fence
-fenceAfter K.RectRopFill h fence = fence
-fenceAfter K.RectRopCopy h fence = fence
-fenceAfter K.DefineAlphaCursor h fence = fence
-fenceAfter K.UpdateVerbose h fence = fence
-fenceAfter K.Fence h fence = h .w1
-fenceAfter K.Escape h fence = fence
-fenceAfter K.Foreign h fence = fence

@@ -7,67 +7,56 @@ use mathlib.Core.Option.{Option, none, some}
 use Prim.Native.Nat.{ℕ, zero, suc, _+_, _-_, _≤_, min}
 use native.Mathlib.Omega.{arith}
 use lib.Dec.{eqb, leb}
-use borrow.Author.Tests.{leb-true, leb-false, le-leb, eq-eqb, ne-eqb}
-use Rattle.geometry.proofs.Tests.{by-bool, both, and-yes}
-use Rattle.register.specs.declared.Register.the-variants.{Writes}
+use borrow.Author.Tests.{eqb-true, leb-true, leb-false, le-leb, eq-eqb, ne-eqb}
+use borrow.Table.Steps.{cases}
+use Rattle.geometry.proofs.Tests.{both, and-yes}
 use Rattle.register.specs.declared.Writable.{Writable}
-use Rattle.register.specs.declared.Writable.the-variants.{Id, Enable, Width, Height, ConfigDone, Sync, GuestId, CursorId, CursorX, CursorY, CursorOn}
+use Rattle.register.specs.declared.Writable.the-variants.{Id}
 use Rattle.register.specs.Numbers.{numbers, registerOf}
+use Rattle.register.proofs.ByNumber.{same-number}
 use Rattle.device.specs.declared.Device.{Device}
 use Rattle.device.specs.Device.{fresh, made}
 use Rattle.register_write.specs.Answers.{Outcome}
-use Rattle.register_read.specs.Answers.{Reading}
+use Rattle.register_write.specs.Registers.{inRange, isId, effectOf, ringAsked, written}
+use Rattle.register_write.proofs.Effects.{is, only-own, effect-made, id-stored, id-foreign}
+use Rattle.register_write.proofs.Kept.{Went, outside, effected, other-length, unusable, accepts, went, by-written, effect-taken}
 use Rattle.register_read.specs.Registers.{writableValue, readBy, readOf}
-use Rattle.register_write.specs.Registers.{isId, idWritten, writableWritten, writtenBy, written}
-use Rattle.register_read.proofs.Readings.{affects, leaves, by-written, foreign-id-stays}
 
 -- ---- the stored id
 
 abbrev pub idOf : Device → ℕ
 idOf d = d .registers .id
 
-other-id-kept : (d : Device) (ring : List ℕ) (v : ℕ) → isId (idOf d) ≡ true → (w : Writable) → affects w (Writes Id) ≡ false → isId (idOf (writableWritten d ring v w .device)) ≡ true
-unfolding readBy writableValue
-other-id-kept d ring v i w a = let s = ap (λ (r : Reading). r .value) (leaves d ring v w (Writes Id) a) in rw s i
+effect-id-kept : (d : Device) (v : ℕ) (w : Writable) → isId (idOf d) ≡ true → isId (idOf (effectOf d v w)) ≡ true
+effect-id-kept d v w i =
+    cases (is w Id)
+    (λ t.
+    rw (same-number w Id (eqb-true _ _ t)) (cases (isId v) (λ y. rw (id-stored d v y) y) (λ f. rw (id-foreign d v f) i)))
+    (λ f. let k : idOf (effectOf d v w) ≡ idOf d = ap idOf (only-own d v w) ∙ rw f in rw k i)
 
-id-written-kept : (d : Device) (v : ℕ) → isId (idOf d) ≡ true → isId (idOf (idWritten d v)) ≡ true
-unfolding idWritten
-id-written-kept d v i = by-bool (isId v) (λ t. rw t t) (λ f. rw f i)
-
-writable-id-kept : (d : Device) (ring : List ℕ) (v : ℕ) → isId (idOf d) ≡ true → (w : Writable) → isId (idOf (writableWritten d ring v w .device)) ≡ true
-unfolding writableWritten
-writable-id-kept d ring v i Id = id-written-kept d v i
-writable-id-kept d ring v i Enable = other-id-kept d ring v i Enable refl
-writable-id-kept d ring v i Width = other-id-kept d ring v i Width refl
-writable-id-kept d ring v i Height = other-id-kept d ring v i Height refl
-writable-id-kept d ring v i ConfigDone = other-id-kept d ring v i ConfigDone refl
-writable-id-kept d ring v i Sync = other-id-kept d ring v i Sync refl
-writable-id-kept d ring v i GuestId = other-id-kept d ring v i GuestId refl
-writable-id-kept d ring v i CursorId = other-id-kept d ring v i CursorId refl
-writable-id-kept d ring v i CursorX = other-id-kept d ring v i CursorX refl
-writable-id-kept d ring v i CursorY = other-id-kept d ring v i CursorY refl
-writable-id-kept d ring v i CursorOn = other-id-kept d ring v i CursorOn refl
+went-id-kept : (d : Device) (ring : List ℕ) (v : ℕ) (w : Writable) {o : Outcome} → isId (idOf d) ≡ true → Went d ring v w o → isId (idOf (o .device)) ≡ true
+went-id-kept d ring v w i (outside f) = i
+went-id-kept d ring v w i (effected r n) = effect-id-kept d v w i
+went-id-kept d ring v w i (other-length c o n) = i
+went-id-kept d ring v w i (unusable c o n u) = i
+went-id-kept d ring v w i (accepts c o n u) = i
 
 -- every write keeps the stored id one of the three, and a fresh device has one of them
 pub id-kept : (d : Device) (ring : List ℕ) (i v : ℕ) → isId (idOf d) ≡ true → isId (idOf (written d ring i v .device)) ≡ true
-id-kept d ring i v e = by-written (λ (o : Outcome). isId (idOf (o .device)) ≡ true) d ring i v (writable-id-kept d ring v e) (λ a. e)
+id-kept d ring i v e = by-written (λ (o : Outcome). isId (idOf (o .device)) ≡ true) d ring v (λ a n. e) i (λ w q. went-id-kept d ring v w e (went d ring v w))
 
 pub fresh-id : (memory pixels : ℕ) → isId (idOf (fresh memory pixels)) ≡ true
 fresh-id memory pixels = refl
 
 -- ---- one offer: a write of register 0 and a read of it
 
-made-id-written : (d : Device) (v : ℕ) → made d ≡ true → made (idWritten d v) ≡ true
-unfolding made idWritten
-made-id-written d v m = by-bool (isId v) (λ t. rw t m) (λ f. rw f m)
+made-id-written : (d : Device) (v : ℕ) → made d ≡ true → made (effectOf d v Id) ≡ true
+unfolding inRange
+made-id-written d v m = effect-made d v m Id refl
 
-id-stored : (d : Device) (v : ℕ) → isId v ≡ true → idOf (idWritten d v) ≡ v
-unfolding idWritten
-id-stored d v t = rw t
-
-offer-writes : (d : Device) (ring : List ℕ) (v : ℕ) → made d ≡ true → written d ring 0 v .device ≡ idWritten d v
-unfolding written writtenBy writableWritten registerOf numbers
-offer-writes d ring v m = rw m
+offer-writes : (d : Device) (ring : List ℕ) (v : ℕ) → made d ≡ true → written d ring 0 v .device ≡ effectOf d v Id
+unfolding inRange ringAsked
+offer-writes d ring v m = ap (λ (o : Outcome). o .device) (effect-taken d ring m Id v refl refl)
 
 id-reads : (d : Device) → made d ≡ true → readOf d 0 ≡ record { answer = 0; value = idOf d }
 unfolding readOf readBy writableValue registerOf numbers
@@ -87,20 +76,20 @@ negotiated (suc n) d ring v =
     let e = written d ring 0 v .device in
     cond (eqb (readOf e 0 .value) v) (record { agreed = some v; device = e }) (negotiated n e ring (v - 1))
 
-offer-taken : (n : ℕ) (d : Device) (ring : List ℕ) (v : ℕ) → made d ≡ true → isId v ≡ true → negotiated (suc n) d ring v ≡ record { agreed = some v; device = idWritten d v }
+offer-taken : (n : ℕ) (d : Device) (ring : List ℕ) (v : ℕ) → made d ≡ true → isId v ≡ true → negotiated (suc n) d ring v ≡ record { agreed = some v; device = effectOf d v Id }
 unfolding negotiated
 offer-taken n d ring v m t =
-    rw (offer-writes d ring v m, id-reads (idWritten d v) (made-id-written d v m), id-stored d v t, eq-eqb v v refl)
+    rw (offer-writes d ring v m, id-reads (effectOf d v Id) (made-id-written d v m), id-stored d v t, eq-eqb v v refl)
 
 offer-passed : (n : ℕ) (d : Device) (ring : List ℕ) (v : ℕ) → made d ≡ true → isId v ≡ false → (idOf d ≡ v → ⊥) → negotiated (suc n) d ring v ≡ negotiated n d ring (v - 1)
-unfolding negotiated writableWritten
-offer-passed n d ring v m f e = rw (offer-writes d ring v m, foreign-id-stays d ring v f, id-reads d m, ne-eqb (idOf d) v e)
+unfolding negotiated
+offer-passed n d ring v m f e = rw (offer-writes d ring v m, id-foreign d v f, id-reads d m, ne-eqb (idOf d) v e)
 
 -- "This algorithm converges": from any offer that is not below all ids, in as many steps as the offer lies above them, and one more
-pub converges : (n : ℕ) (d : Device) (ring : List ℕ) (v : ℕ) → made d ≡ true → isId (idOf d) ≡ true → 0x90000000 ≤ v → v - 0x90000002 + 1 ≤ n → negotiated n d ring v ≡ record { agreed = some (min v 0x90000002); device = idWritten d (min v 0x90000002) }
+pub converges : (n : ℕ) (d : Device) (ring : List ℕ) (v : ℕ) → made d ≡ true → isId (idOf d) ≡ true → 0x90000000 ≤ v → v - 0x90000002 + 1 ≤ n → negotiated n d ring v ≡ record { agreed = some (min v 0x90000002); device = effectOf d (min v 0x90000002) Id }
 converges zero d ring v m i l h = absurd (omega arith)
 converges (suc n) d ring v m i l h =
-    by-bool (leb v 0x90000002)
+    cases (leb v 0x90000002)
     (λ t. let e : min v 0x90000002 ≡ v = omega (arith, leb-true v 0x90000002 t) in
     rw e (offer-taken n d ring v m (and-yes (leb 0x90000000 v) (leb v 0x90000002) (le-leb 0x90000000 v l) t)))
     (λ f. let g = leb-false v 0x90000002 f in
@@ -112,4 +101,4 @@ pub agreed-reads : (n : ℕ) (d : Device) (ring : List ℕ) (v : ℕ) → made d
 agreed-reads n d ring v m i l h =
     let best = min v 0x90000002 in
     let t : isId best ≡ true = and-yes (leb 0x90000000 best) (leb best 0x90000002) (le-leb 0x90000000 best (omega arith)) (le-leb best 0x90000002 (omega arith)) in
-    rw (converges n d ring v m i l h, id-reads (idWritten d best) (made-id-written d best m), id-stored d best t)
+    rw (converges n d ring v m i l h, id-reads (effectOf d best Id) (made-id-written d best m), id-stored d best t)

@@ -5,7 +5,7 @@ use mathlib.Core.Bool.{true}
 use mathlib.Core.Logic.{_↔_}
 use Prim.Native.Nat.{ℕ}
 use native.Mathlib.Omega.{arith}
-use Rattle.geometry.proofs.Tests.{by-bool}
+use borrow.Table.Steps.{cases}
 use Rattle.register.specs.declared.Register.{Register}
 use Rattle.register.specs.declared.Register.the-variants.{Writes, Reads, Absent}
 use Rattle.register.specs.Numbers.{registerOf}
@@ -16,7 +16,7 @@ use Rattle.register_read.specs.Registers.{readBy, readOf}
 -- "Reading an absent register gives 30 and value 0."
 pub absent-read : (d : Device) (index : ℕ) → registerOf index ≡ Absent → readOf d index ≡ record { answer = 30; value = 0 }
 unfolding readOf readBy
-absent-read d index e = by-bool (made d) (λ m. rw (m, e)) (λ f. rw f)
+absent-read d index e = cases (made d) (λ m. rw (m, e)) (λ f. rw f)
 
 is-30 : (d : Device) (r : Register) → readBy d r .answer ≡ 30 → r ≡ Absent
 unfolding readBy

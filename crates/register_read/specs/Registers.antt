@@ -11,7 +11,7 @@ use Rattle.register.specs.Numbers.{registerOf}
 use Rattle.device.specs.declared.Sizes.{Sizes}
 use Rattle.device.specs.declared.Registers.{Registers}
 use Rattle.device.specs.declared.Device.{Device}
-use Rattle.device.specs.Device.{widthOf, heightOf, made}
+use Rattle.device.specs.Device.{widthOf, heightOf, maxWidth, maxHeight, made}
 use Rattle.register_read.specs.Answers.{Reading}
 
 abbrev pub bit : Bool → ℕ
@@ -35,8 +35,8 @@ writableValue g CursorOn = g .cursoron
 -- 0xFF0000, 0xFF00, 0xFF, 12 BYTES_PER_LINE 4·width, 13, 14 and 18 zero, 15 VRAM_SIZE 4·P, 16 FB_SIZE 4·width·height,
 -- 17 CAPABILITIES 0x2D3, 19 MEM_SIZE M, 22 BUSY."
 unfoldable pub readOnlyValue : Sizes → ℕ → ℕ → Bool → ReadOnly → ℕ
-readOnlyValue sizes width height busy MaxWidth = 2560
-readOnlyValue sizes width height busy MaxHeight = 1600
+readOnlyValue sizes width height busy MaxWidth = maxWidth
+readOnlyValue sizes width height busy MaxHeight = maxHeight
 readOnlyValue sizes width height busy Depth = 24
 readOnlyValue sizes width height busy BitsPerPixel = 32
 readOnlyValue sizes width height busy HostBitsPerPixel = 32

@@ -1,5 +1,7 @@
 // What registers read.
 use device::Device;
+use device::MAX_HEIGHT;
+use device::MAX_WIDTH;
 use device::Registers;
 use device::is_made;
 use register::ReadOnly;
@@ -50,8 +52,8 @@ fn read_only_value(d: Device, r: ReadOnly) -> u32
     let sizes = d.sizes;
     let g = d.registers;
     match r {
-        ReadOnly::MaxWidth => 2560,
-        ReadOnly::MaxHeight => 1600,
+        ReadOnly::MaxWidth => MAX_WIDTH,
+        ReadOnly::MaxHeight => MAX_HEIGHT,
         ReadOnly::Depth => 24,
         ReadOnly::BitsPerPixel => 32,
         ReadOnly::HostBitsPerPixel => 32,

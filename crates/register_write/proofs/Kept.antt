@@ -1,160 +1,155 @@
--- What a register write keeps: a well-formed device stays so, and no write changes its sizes.
+-- How a register write goes, whichever the register, and what it keeps: a well-formed device stays so, and no write changes its sizes, its
+-- fence or its defined cursor.
 -- Assumes nothing.
-use mathlib.Core.Path.{_≡_, refl}
-use mathlib.Core.Bool.{Bool, true, false, _&&_, and-assoc}
+use mathlib.Core.Path.{_≡_, refl, ap, _∙_}
+use mathlib.Core.Bool.{true, false, false≢true}
 use mathlib.Core.List.{List}
-use Prim.Native.Nat.{ℕ, _+_, _/_}
+use Prim.Native.Nat.{ℕ, _/_}
 use native.Mathlib.Omega.{arith}
-use lib.Dec.{eqb, leb}
+use lib.Dec.{eqb}
 use lib.ListN.{length}
-use borrow.Author.Tests.{eqb-true, le-leb, lt-ltb}
-use Rattle.geometry.proofs.Tests.{by-bool, both}
+use borrow.Author.Tests.{eqb-true, eqb-false, eq-eqb}
+use borrow.Table.Steps.{cases}
 use Rattle.ring.specs.declared.Ring.{Ring}
-use Rattle.ring.specs.declared.Acceptance.{Acceptance}
-use Rattle.ring.specs.declared.Acceptance.the-variants.{Accepted, Refused as RingRefused}
-use Rattle.ring.specs.Acceptance.{accepted}
-use Rattle.ring.proofs.Laws.{accepted-ring}
+use Rattle.ring.specs.declared.Acceptance.the-variants.{Accepted}
+use Rattle.ring.specs.Acceptance.{minOf, maxOf, stopOf, usable, accepted}
+use Rattle.ring.proofs.Laws.{accepted-when, refused-when, accepted-placed}
 use Rattle.register.specs.declared.Register.{Register}
 use Rattle.register.specs.declared.Register.the-variants.{Writes, Reads, Absent}
 use Rattle.register.specs.declared.Writable.{Writable}
 use Rattle.register.specs.declared.Writable.the-variants.{Id, Enable, Width, Height, ConfigDone, Sync, GuestId, CursorId, CursorX, CursorY, CursorOn}
 use Rattle.register.specs.Numbers.{registerOf}
-use Rattle.device.specs.declared.Registers.{Registers}
-use Rattle.device.specs.declared.Plane.{Plane}
-use Rattle.device.specs.declared.Condition.{Condition}
-use Rattle.device.specs.declared.Condition.the-variants.{Idle, Running, Faulted}
+use Rattle.register.proofs.ByNumber.{numberOf, numbered}
 use Rattle.device.specs.declared.Device.{Device}
-use Rattle.device.specs.Device.{memoryOf, widthOf, heightOf, modeGood, ringGood, conditionGood, made, withRegisters, withPlane, withBusy, withCondition}
-use Rattle.register_write.specs.Answers.{Outcome}
-use Rattle.register_write.specs.Registers.{taken, refused, isId, idWritten, enableWritten, widthWritten, heightWritten, idled, configured, unconfigured, acceptedWritten, configDoneWritten, running, synced, cursorOnWritten, writableWritten, writtenBy, written}
+use Rattle.device.specs.Device.{memoryOf, conditionGood, made}
 use Rattle.device.proofs.Kept.{parts}
+use Rattle.register_write.specs.Answers.{Outcome}
+use Rattle.register_write.specs.Registers.{taken, refused, inRange, effectOf, ringAsked, remembering, acceptedWritten, ringWritten, writableWritten, writtenBy, written}
+use Rattle.register_write.proofs.Effects.{changedBy, only-own, effect-made}
+
+-- ---- how a write goes
+
+-- what acceptance remembers of ring words
+abbrev pub remembered : List ℕ → Ring
+remembered ring = record { min = minOf ring / 4; max = maxOf ring / 4; stop = stopOf ring / 4 }
+
+-- A value outside its range is refused. One in its range is taken with its effect; CONFIG_DONE 1 by the ring.
+pub data Went (d : Device) (ring : List ℕ) (v : ℕ) (w : Writable) : Outcome → Type 0 where
+  outside : inRange w v ≡ false → Went d ring v w (refused 32 d)
+  effected : inRange w v ≡ true → ringAsked w v ≡ false → Went d ring v w (taken (effectOf d v w))
+  other-length : w ≡ ConfigDone → v ≡ 1 → (length ring ≡ memoryOf d / 4 → ⊥) → Went d ring v w (refused 20 d)
+  unusable : w ≡ ConfigDone → v ≡ 1 → length ring ≡ memoryOf d / 4 → usable ring ≡ false → Went d ring v w (refused 33 d)
+  accepts : w ≡ ConfigDone → v ≡ 1 → length ring ≡ memoryOf d / 4 → usable ring ≡ true → Went d ring v w (taken (remembering d (remembered ring)))
+
+-- CONFIG_DONE 1 alone asks for the ring
+asked : (w : Writable) (v : ℕ) → ringAsked w v ≡ true → (w ≡ ConfigDone) × (v ≡ 1)
+unfolding ringAsked
+asked Id v e = absurd (false≢true e)
+asked Enable v e = absurd (false≢true e)
+asked Width v e = absurd (false≢true e)
+asked Height v e = absurd (false≢true e)
+asked ConfigDone v e = (refl, eqb-true v 1 e)
+asked Sync v e = absurd (false≢true e)
+asked GuestId v e = absurd (false≢true e)
+asked CursorId v e = absurd (false≢true e)
+asked CursorX v e = absurd (false≢true e)
+asked CursorY v e = absurd (false≢true e)
+asked CursorOn v e = absurd (false≢true e)
+
+module _ (d : Device) (ring : List ℕ) (v : ℕ) (w : Writable) where
+  went-ring : w ≡ ConfigDone → v ≡ 1 → Went d ring v w (ringWritten d ring)
+  unfolding ringWritten acceptedWritten
+  went-ring c o =
+      cases (eqb (length ring) (memoryOf d / 4))
+      (λ n.
+      cases (usable ring) (λ u. rw (n, accepted-when ring u) (accepts c o (eqb-true _ _ n) u))
+      (λ u. rw (n, refused-when ring u) (unusable c o (eqb-true _ _ n) u)))
+      (λ n. rw n (other-length c o (eqb-false _ _ n)))
+
+  pub went : Went d ring v w (writableWritten d ring v w)
+  unfolding writableWritten
+  went =
+      cases (inRange w v)
+      (λ r.
+      cases (ringAsked w v) (λ a. let c = asked w v a in rw (r, a) (went-ring (c .0) (c .1)))
+      (λ n. rw (r, n) (effected r n)))
+      (λ f. rw f (outside f))
+
+  pub taken-effect : inRange w v ≡ true → ringAsked w v ≡ false → writableWritten d ring v w ≡ taken (effectOf d v w)
+  unfolding writableWritten
+  taken-effect r n = rw (r, n)
+
+-- What holds of every writable register's write, and of a device left as it is, holds of every write.
+module _ (P : Outcome → Type 0) (d : Device) (ring : List ℕ) (v : ℕ) (stays : (a : ℕ) → (a ≡ 0 → ⊥) → P (refused a d)) where
+  by-register : (r : Register) → ((w : Writable) → r ≡ Writes w → P (writableWritten d ring v w)) → P (writtenBy d ring v r)
+  unfolding writtenBy
+  by-register (Writes w) p = p w refl
+  by-register (Reads r) p = stays 31 (λ z. omega arith)
+  by-register Absent p = stays 30 (λ z. omega arith)
+
+  pub by-written : (index : ℕ) → ((w : Writable) → registerOf index ≡ Writes w → P (writableWritten d ring v w)) → P (written d ring index v)
+  unfolding written
+  by-written index p = cases (made d) (λ m. rw m (by-register (registerOf index) p)) (λ f. rw f (stays 30 (λ z. omega arith)))
+
+-- a write of a well-formed device, by its number: taken with its effect, CONFIG_DONE 1 with the ring remembered
+module _ (d : Device) (ring : List ℕ) (m : made d ≡ true) where
+  pub effect-taken : (w : Writable) (v : ℕ) → inRange w v ≡ true → ringAsked w v ≡ false → written d ring (numberOf (Writes w)) v ≡ taken (effectOf d v w)
+  unfolding written writtenBy
+  effect-taken w v r n = rw (m, numbered (Writes w)) (taken-effect d ring v w r n)
+
+  pub ring-taken : length ring ≡ memoryOf d / 4 → usable ring ≡ true → written d ring (numberOf (Writes ConfigDone)) 1 ≡ taken (remembering d (remembered ring))
+  unfolding written writtenBy writableWritten inRange ringAsked ringWritten acceptedWritten
+  ring-taken n u = rw (m, numbered (Writes ConfigDone), eq-eqb _ _ n, accepted-when ring u)
 
 -- ---- what a write leaves
 
--- The four shapes of a write's outcome. A refusal leaves the device. A value that is taken changes registers, plane and BUSY, with a good
--- mode; or it is CONFIG_DONE 0, or CONFIG_DONE 1 with the ring to remember.
-pub data Left (d : Device) : Outcome → Type 0 where
-  same : (a : ℕ) → Left d (refused a d)
-  changed : (g : Registers) (p : Plane) (busy : Bool) → modeGood (g .width) (g .height) ≡ true → g .config ≡ d .registers .config
-      → Left d (taken (withBusy (withPlane (withRegisters d g) p) busy))
-  forgotten : Left d (taken (unconfigured d))
-  remembered : (g : Ring) → ringGood (memoryOf d) g ≡ true → Left d (taken (withCondition (configured d true) (Running g)))
+-- A refusal leaves the device. What is taken changes the register's own parts.
+pub data Left (d : Device) (w : Writable) : Outcome → Type 0 where
+  same : (a : ℕ) → (a ≡ 0 → ⊥) → Left d w (refused a d)
+  changed : (e : Device) → e ≡ changedBy w d e → Left d w (taken e)
 
--- an accepted ring lies in a ring memory of its length
-ring-good : (memory : ℕ) (ring : List ℕ) (g : Ring) → length ring ≡ memory / 4 → accepted ring ≡ Accepted g → ringGood memory g ≡ true
-unfolding ringGood
-ring-good memory ring g n e =
-    let a = accepted-ring ring g e in
-    rw (
-      le-leb 4 (g .min) (omega arith),
-      le-leb (g .max) (memory / 4) (omega arith),
-      le-leb (g .min + 2560) (g .max) (omega arith),
-      le-leb (g .min) (g .stop) (omega arith),
-      lt-ltb (g .stop) (g .max) (omega arith),
-    )
+went-left : (d : Device) (ring : List ℕ) (v : ℕ) (w : Writable) {o : Outcome} → Went d ring v w o → Left d w o
+went-left d ring v w (outside f) = same 32 (λ z. omega arith)
+went-left d ring v w (effected r n) = changed (effectOf d v w) (only-own d v w)
+went-left d ring v w (other-length c o n) = same 20 (λ z. omega arith)
+went-left d ring v w (unusable c o n u) = same 33 (λ z. omega arith)
+went-left d ring v w (accepts c o n u) = changed (remembering d (remembered ring)) (rw c)
 
-mode-halves : (width height : ℕ) → modeGood width height ≡ (leb 1 width && leb width 2560) && (leb 1 height && leb height 1600)
-unfolding modeGood
-mode-halves width height = rw and-assoc
+pub left : (d : Device) (ring : List ℕ) (v : ℕ) (w : Writable) → Left d w (writableWritten d ring v w)
+left d ring v w = went-left d ring v w (went d ring v w)
 
--- every write to a device with a good mode has one of these shapes
-module _ (d : Device) (ring : List ℕ) (v : ℕ) (mode : modeGood (widthOf d) (heightOf d) ≡ true) where
-  halves : (leb 1 (widthOf d) && leb (widthOf d) 2560 ≡ true) × (leb 1 (heightOf d) && leb (heightOf d) 1600 ≡ true)
-  halves = both _ _ (rw mode-halves at mode)
+-- ---- a well-formed device stays so
 
-  left-width : Left d (widthWritten d v)
-  unfolding widthWritten
-  left-width =
-      by-bool (leb 1 v && leb v 2560)
-      (λ t.
-      let good : modeGood v (heightOf d) ≡ true = rw (mode-halves, t) (halves .1) in
-      rw t (changed _ _ _ good refl))
-      (λ f. rw f (same 32))
-
-  left-height : Left d (heightWritten d v)
-  unfolding heightWritten
-  left-height =
-      by-bool (leb 1 v && leb v 1600)
-      (λ t.
-      let good : modeGood (widthOf d) v ≡ true = rw (mode-halves, halves .0) t in
-      rw t (changed _ _ _ good refl))
-      (λ f. rw f (same 32))
-
-  left-accepted : (a : Acceptance) → length ring ≡ memoryOf d / 4 → accepted ring ≡ a → Left d (acceptedWritten d a)
-  unfolding acceptedWritten
-  left-accepted (Accepted g) n e = remembered g (ring-good (memoryOf d) ring g n e)
-  left-accepted RingRefused n e = same 33
-
-  left-config-done : Left d (configDoneWritten d ring v)
-  unfolding configDoneWritten
-  left-config-done =
-      by-bool (eqb v 0) (λ z. rw z forgotten)
-      (λ nz.
-      by-bool (eqb v 1)
-      (λ o.
-      by-bool (eqb (length ring) (memoryOf d / 4)) (λ n. rw (nz, o, n) (left-accepted (accepted ring) (eqb-true _ _ n) refl))
-      (λ n. rw (nz, o, n) (same 20)))
-      (λ f. rw (nz, f) (same 32)))
-
-  left-writable : (w : Writable) → Left d (writableWritten d ring v w)
-  unfolding writableWritten idWritten enableWritten synced cursorOnWritten
-  left-writable Id = by-bool (isId v) (λ t. rw t (changed _ _ _ mode refl)) (λ f. rw f (changed _ _ _ mode refl))
-  left-writable Enable =
-      by-bool (eqb v 0) (λ z. rw z (changed _ _ _ mode refl))
-      (λ nz. by-bool (eqb v 1) (λ o. rw (nz, o) (changed _ _ _ mode refl)) (λ f. rw (nz, f) (same 32)))
-  left-writable Width = left-width
-  left-writable Height = left-height
-  left-writable ConfigDone = left-config-done
-  left-writable Sync =
-      by-bool (running (d .condition))
-      (λ r. by-bool (d .registers .enable) (λ t. rw (r, t) (changed _ _ _ mode refl)) (λ f. rw (r, f) (changed _ _ _ mode refl)))
-      (λ f. rw f (changed _ _ _ mode refl))
-  left-writable GuestId = changed _ _ _ mode refl
-  left-writable CursorId = changed _ _ _ mode refl
-  left-writable CursorX = changed _ _ _ mode refl
-  left-writable CursorY = changed _ _ _ mode refl
-  left-writable CursorOn =
-      by-bool (leb v 3)
-      (λ t.
-      by-bool (eqb v 0) (λ z. rw (t, z) (changed _ _ _ mode refl))
-      (λ nz. by-bool (eqb v 1) (λ o. rw (t, nz, o) (changed _ _ _ mode refl)) (λ f. rw (t, nz, f) (changed _ _ _ mode refl))))
-      (λ f. rw f (same 32))
-
-  left-by : (r : Register) → Left d (writtenBy d ring v r)
-  unfolding writtenBy
-  left-by (Writes w) = left-writable w
-  left-by (Reads r) = same 31
-  left-by Absent = same 30
-
--- ---- what is kept
-
-idled-good : (memory : ℕ) (c : Condition) → conditionGood memory false (idled c) ≡ true
-unfolding conditionGood
-idled-good memory Idle = refl
-idled-good memory (Running g) = refl
-idled-good memory (Faulted c) = refl
-
-module _ (d : Device) (m : made d ≡ true) where
-  pub left : (ring : List ℕ) (index v : ℕ) → Left d (written d ring index v)
-  unfolding written
-  left ring index v = rw m (left-by d ring v (parts d m .1) (registerOf index))
-
-  left-made : {o : Outcome} → Left d o → made (o .device) ≡ true
-  unfolding made conditionGood
-  left-made (same a) = m
-  left-made (changed g p busy mode config) = rw (parts d m .0, mode, config, parts d m .2) (parts d m .3)
-  left-made forgotten = rw (parts d m .0, parts d m .1, idled-good (memoryOf d) (d .condition)) (parts d m .3)
-  left-made (remembered g good) = rw (parts d m .0, parts d m .1, good) (parts d m .3)
+went-made : (d : Device) (ring : List ℕ) (v : ℕ) (w : Writable) {o : Outcome} → made d ≡ true → Went d ring v w o → made (o .device) ≡ true
+unfolding made conditionGood
+went-made d ring v w m (outside f) = m
+went-made d ring v w m (effected r n) = effect-made d v m w r
+went-made d ring v w m (other-length c o n) = m
+went-made d ring v w m (unusable c o n u) = m
+went-made d ring v w m (accepts c o n u) =
+    let x = parts d m in
+    rw (x .0, x .1, rw n at (accepted-placed ring (remembered ring) (accepted-when ring u))) (x .3)
 
 pub written-made : (d : Device) (ring : List ℕ) (index v : ℕ) → made d ≡ true → made (written d ring index v .device) ≡ true
-written-made d ring index v m = left-made d m (left d m ring index v)
+written-made d ring index v m =
+    by-written (λ (o : Outcome). made (o .device) ≡ true) d ring v (λ a n. m) index (λ w q. went-made d ring v w m (went d ring v w))
 
-left-sizes : (d : Device) {o : Outcome} → Left d o → o .device .sizes ≡ d .sizes
-left-sizes d (same a) = refl
-left-sizes d (changed g p busy mode config) = refl
-left-sizes d forgotten = refl
-left-sizes d (remembered g good) = refl
+-- ---- parts that a write keeps
+
+part-left : {A : Type 0} (part : Device → A) (d : Device) (w : Writable) {o : Outcome} → ((e : Device) → part (changedBy w d e) ≡ part d) → Left d w o
+    → part (o .device) ≡ part d
+part-left part d w k (same a n) = refl
+part-left part d w k (changed e q) = ap part q ∙ k e
+
+-- a part of the device that the written register does not change
+pub part-kept : {A : Type 0} (part : Device → A) (d : Device) (ring : List ℕ) (index v : ℕ)
+    → ((w : Writable) → registerOf index ≡ Writes w → (e : Device) → part (changedBy w d e) ≡ part d)
+    → part (written d ring index v .device) ≡ part d
+part-kept part d ring index v k =
+    by-written (λ (o : Outcome). part (o .device) ≡ part d) d ring v (λ a n. refl) index (λ w q. part-left part d w (k w q) (left d ring v w))
 
 pub sizes-kept : (d : Device) (ring : List ℕ) (index v : ℕ) → written d ring index v .device .sizes ≡ d .sizes
-unfolding written
-sizes-kept d ring index v = by-bool (made d) (λ m. left-sizes d (left d m ring index v)) (λ f. rw f)
+sizes-kept d ring index v = part-kept (λ (e : Device). e .sizes) d ring index v (λ w q e. refl)
+
+pub marks-kept : (d : Device) (ring : List ℕ) (index v : ℕ) → written d ring index v .device .marks ≡ d .marks
+marks-kept d ring index v = part-kept (λ (e : Device). e .marks) d ring index v (λ w q e. refl)

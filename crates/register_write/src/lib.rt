@@ -1,6 +1,8 @@
 // What a register write does.
 use device::Condition;
 use device::Device;
+use device::MAX_HEIGHT;
+use device::MAX_WIDTH;
 use device::Plane;
 use device::Registers;
 use device::is_made;
@@ -8,9 +10,10 @@ use register::Register;
 use register::Writable;
 use ring::Acceptance;
 ghost use mathlib.Core.Path.{_≡_};
-ghost use Rattle.device.specs.Device.{withRegisters, withPlane};
+ghost use mathlib.Core.Bool.{_&&_};
+ghost use lib.Dec.{leb};
 ghost use Rattle.register_write.specs.Answers.{writeNumber, outcome};
-ghost use Rattle.register_write.specs.Registers.{taken, idWritten, enableWritten, widthWritten, heightWritten, idled, unconfigured, acceptedWritten, configDoneWritten, running, synced, cursorOnWritten, writableWritten, written};
+ghost use Rattle.register_write.specs.Registers.{inRange, idWritten, enableWritten, widthWritten, heightWritten, idled, unconfigured, running, synced, guestIdWritten, cursorIdWritten, cursorXWritten, cursorYWritten, planeOn, cursorOnWritten, effectOf, ringAsked, acceptedWritten, ringWritten, writableWritten, written};
 
 pub enum WriteAnswer {
     Taken,
@@ -42,17 +45,37 @@ pub fn write_number(answer: WriteAnswer) -> u32
     }
 }
 
-// ---- writing a register
+// ---- the ranges
 
-// Taken, with these registers.
-fn taken(d: Device, registers: Registers) -> Written
-    ensures { λ r. ⌜ outcome r ≡ taken (withRegisters d registers) ⌝ }
+// 1 to high.
+fn up_to(value: u32, high: u32) -> bool
+    ensures { λ r. ⌜ r ≡ leb 1 value && leb value high ⌝ }
 {
-    Written {
-        answer: WriteAnswer::Taken,
-        device: Device { registers, ..d },
+    if value < 1 {
+        return false;
+    }
+    value <= high
+}
+
+fn in_range(w: Writable, value: u32) -> bool
+    ensures { λ r. ⌜ r ≡ inRange w value ⌝ }
+{
+    match w {
+        Writable::Id => true,
+        Writable::Enable => value <= 1,
+        Writable::Width => up_to(value, MAX_WIDTH),
+        Writable::Height => up_to(value, MAX_HEIGHT),
+        Writable::ConfigDone => value <= 1,
+        Writable::Sync => true,
+        Writable::GuestId => true,
+        Writable::CursorId => true,
+        Writable::CursorX => true,
+        Writable::CursorY => true,
+        Writable::CursorOn => value <= 3,
     }
 }
+
+// ---- the effects: what a value in its range does
 
 fn write_id(d: Device, value: u32) -> Device
     ensures { λ r. ⌜ r ≡ idWritten d value ⌝ }
@@ -70,82 +93,40 @@ fn write_id(d: Device, value: u32) -> Device
     }
 }
 
-fn write_enable(d: Device, value: u32) -> Written
-    ensures { λ r. ⌜ outcome r ≡ enableWritten d value ⌝ }
+fn write_enable(d: Device, value: u32) -> Device
+    ensures { λ r. ⌜ r ≡ enableWritten d value ⌝ }
 {
     let g = d.registers;
     if value == 0 {
-        return Written {
-            answer: WriteAnswer::Taken,
-            device: Device {
-                registers: Registers { enable: false, ..g },
-                busy: false,
-                ..d
-            },
+        return Device {
+            registers: Registers { enable: false, ..g },
+            busy: false,
+            ..d
         };
     }
-    if value == 1 {
-        return Written {
-            answer: WriteAnswer::Taken,
-            device: Device {
-                registers: Registers { enable: true, ..g },
-                ..d
-            },
-        };
-    }
-    Written {
-        answer: WriteAnswer::BadValue,
-        device: d,
+    Device {
+        registers: Registers { enable: true, ..g },
+        ..d
     }
 }
 
-fn write_width(d: Device, value: u32) -> Written
-    ensures { λ r. ⌜ outcome r ≡ widthWritten d value ⌝ }
+fn write_width(d: Device, value: u32) -> Device
+    ensures { λ r. ⌜ r ≡ widthWritten d value ⌝ }
 {
-    if value < 1 {
-        return Written {
-            answer: WriteAnswer::BadValue,
-            device: d,
-        };
-    }
-    if 2560 < value {
-        return Written {
-            answer: WriteAnswer::BadValue,
-            device: d,
-        };
-    }
     let g = d.registers;
-    Written {
-        answer: WriteAnswer::Taken,
-        device: Device {
-            registers: Registers { width: value, ..g },
-            ..d
-        },
+    Device {
+        registers: Registers { width: value, ..g },
+        ..d
     }
 }
 
-fn write_height(d: Device, value: u32) -> Written
-    ensures { λ r. ⌜ outcome r ≡ heightWritten d value ⌝ }
+fn write_height(d: Device, value: u32) -> Device
+    ensures { λ r. ⌜ r ≡ heightWritten d value ⌝ }
 {
-    if value < 1 {
-        return Written {
-            answer: WriteAnswer::BadValue,
-            device: d,
-        };
-    }
-    if 1600 < value {
-        return Written {
-            answer: WriteAnswer::BadValue,
-            device: d,
-        };
-    }
     let g = d.registers;
-    Written {
-        answer: WriteAnswer::Taken,
-        device: Device {
-            registers: Registers { height: value, ..g },
-            ..d
-        },
+    Device {
+        registers: Registers { height: value, ..g },
+        ..d
     }
 }
 
@@ -180,57 +161,6 @@ fn unconfigure(d: Device) -> Device
     }
 }
 
-// CONFIG_DONE 1 with ring words that are accepted or refused.
-fn configure(d: Device, acceptance: Acceptance) -> Written
-    ensures { λ r. ⌜ outcome r ≡ acceptedWritten d acceptance ⌝ }
-{
-    let g = d.registers;
-    match acceptance {
-        Acceptance::Accepted(ring) => {
-            return Written {
-                answer: WriteAnswer::Taken,
-                device: Device {
-                    registers: Registers { config: true, ..g },
-                    condition: Condition::Running(ring),
-                    ..d
-                },
-            };
-        }
-        Acceptance::Refused => {
-            return Written {
-                answer: WriteAnswer::RingRefused,
-                device: d,
-            };
-        }
-    }
-}
-
-fn write_config_done(d: Device, ring: &[u32], value: u32) -> Written
-    ensures { λ r. ⌜ outcome r ≡ configDoneWritten d (now (ring .entry)) value ⌝ }
-{
-    if value == 0 {
-        return Written {
-            answer: WriteAnswer::Taken,
-            device: unconfigure(d),
-        };
-    }
-    if value != 1 {
-        return Written {
-            answer: WriteAnswer::BadValue,
-            device: d,
-        };
-    }
-    let sizes = d.sizes;
-    let words = (sizes.memory / 4) as usize;
-    if ring.len() != words {
-        return Written {
-            answer: WriteAnswer::WrongLength,
-            device: d,
-        };
-    }
-    configure(d, ring::accept(ring))
-}
-
 // Configured and without fault.
 fn is_running(condition: Condition) -> bool
     ensures { λ r. ⌜ r ≡ running condition ⌝ }
@@ -256,95 +186,189 @@ fn sync(d: Device) -> Device
     d
 }
 
-// Taken, with this plane.
-fn planed(d: Device, plane: Plane) -> Written
-    ensures { λ r. ⌜ outcome r ≡ taken (withPlane d plane) ⌝ }
+fn write_guest_id(d: Device, value: u32) -> Device
+    ensures { λ r. ⌜ r ≡ guestIdWritten d value ⌝ }
 {
-    Written {
-        answer: WriteAnswer::Taken,
-        device: Device { plane, ..d },
+    let g = d.registers;
+    Device {
+        registers: Registers { guest: value, ..g },
+        ..d
     }
 }
 
-fn write_cursor_on(d: Device, value: u32) -> Written
-    ensures { λ r. ⌜ outcome r ≡ cursorOnWritten d value ⌝ }
+fn write_cursor_id(d: Device, value: u32) -> Device
+    ensures { λ r. ⌜ r ≡ cursorIdWritten d value ⌝ }
 {
-    if 3 < value {
-        return Written {
-            answer: WriteAnswer::BadValue,
-            device: d,
-        };
-    }
     let g = d.registers;
-    let plane = d.plane;
-    let on = Device {
+    Device {
         registers: Registers {
-            cursoron: value,
+            cursorid: value,
             ..g
         },
         ..d
-    };
+    }
+}
+
+fn write_cursor_x(d: Device, value: u32) -> Device
+    ensures { λ r. ⌜ r ≡ cursorXWritten d value ⌝ }
+{
+    let g = d.registers;
+    Device {
+        registers: Registers {
+            cursorx: value,
+            ..g
+        },
+        ..d
+    }
+}
+
+fn write_cursor_y(d: Device, value: u32) -> Device
+    ensures { λ r. ⌜ r ≡ cursorYWritten d value ⌝ }
+{
+    let g = d.registers;
+    Device {
+        registers: Registers {
+            cursory: value,
+            ..g
+        },
+        ..d
+    }
+}
+
+// What CURSOR_ON makes of the cursor plane.
+fn plane_on(d: Device, value: u32) -> Plane
+    ensures { λ r. ⌜ r ≡ planeOn d value ⌝ }
+{
+    let g = d.registers;
+    let plane = d.plane;
     if value == 0 {
-        return planed(
-            on,
-            Plane {
-                shown: false,
-                ..plane
-            },
-        );
+        return Plane {
+            shown: false,
+            ..plane
+        };
     }
     if value == 1 {
-        let shown = Plane {
+        return Plane {
             shown: true,
             id: g.cursorid,
             x: g.cursorx,
             y: g.cursory,
         };
-        return planed(on, shown);
     }
-    planed(on, plane)
+    plane
 }
+
+fn write_cursor_on(d: Device, value: u32) -> Device
+    ensures { λ r. ⌜ r ≡ cursorOnWritten d value ⌝ }
+{
+    let g = d.registers;
+    let plane = plane_on(d, value);
+    Device {
+        registers: Registers {
+            cursoron: value,
+            ..g
+        },
+        plane,
+        ..d
+    }
+}
+
+fn effect(d: Device, value: u32, w: Writable) -> Device
+    ensures { λ r. ⌜ r ≡ effectOf d value w ⌝ }
+{
+    match w {
+        Writable::Id => write_id(d, value),
+        Writable::Enable => write_enable(d, value),
+        Writable::Width => write_width(d, value),
+        Writable::Height => write_height(d, value),
+        Writable::ConfigDone => unconfigure(d),
+        Writable::Sync => sync(d),
+        Writable::GuestId => write_guest_id(d, value),
+        Writable::CursorId => write_cursor_id(d, value),
+        Writable::CursorX => write_cursor_x(d, value),
+        Writable::CursorY => write_cursor_y(d, value),
+        Writable::CursorOn => write_cursor_on(d, value),
+    }
+}
+
+// ---- CONFIG_DONE 1, the one write that asks for the ring
+
+fn ring_asked(w: Writable, value: u32) -> bool
+    ensures { λ r. ⌜ r ≡ ringAsked w value ⌝ }
+{
+    match w {
+        Writable::Id => false,
+        Writable::Enable => false,
+        Writable::Width => false,
+        Writable::Height => false,
+        Writable::ConfigDone => value == 1,
+        Writable::Sync => false,
+        Writable::GuestId => false,
+        Writable::CursorId => false,
+        Writable::CursorX => false,
+        Writable::CursorY => false,
+        Writable::CursorOn => false,
+    }
+}
+
+// Ring words that are accepted or refused.
+fn configure(d: Device, acceptance: Acceptance) -> Written
+    ensures { λ r. ⌜ outcome r ≡ acceptedWritten d acceptance ⌝ }
+{
+    let g = d.registers;
+    match acceptance {
+        Acceptance::Accepted(ring) => {
+            return Written {
+                answer: WriteAnswer::Taken,
+                device: Device {
+                    registers: Registers { config: true, ..g },
+                    condition: Condition::Running(ring),
+                    ..d
+                },
+            };
+        }
+        Acceptance::Refused => {
+            return Written {
+                answer: WriteAnswer::RingRefused,
+                device: d,
+            };
+        }
+    }
+}
+
+fn write_ring(d: Device, ring: &[u32]) -> Written
+    ensures { λ r. ⌜ outcome r ≡ ringWritten d (now (ring .entry)) ⌝ }
+{
+    let sizes = d.sizes;
+    let words = (sizes.memory / 4) as usize;
+    if ring.len() != words {
+        return Written {
+            answer: WriteAnswer::WrongLength,
+            device: d,
+        };
+    }
+    configure(d, ring::accept(ring))
+}
+
+// ---- writing a register
 
 fn write_writable(d: Device, ring: &[u32], w: Writable, value: u32) -> Written
     ensures { λ r. ⌜ outcome r ≡ writableWritten d (now (ring .entry)) value w ⌝ }
 {
-    let g = d.registers;
-    match w {
-        Writable::Id => Written {
-            answer: WriteAnswer::Taken,
-            device: write_id(d, value),
-        },
-        Writable::Enable => write_enable(d, value),
-        Writable::Width => write_width(d, value),
-        Writable::Height => write_height(d, value),
-        Writable::ConfigDone => write_config_done(d, ring, value),
-        Writable::Sync => Written {
-            answer: WriteAnswer::Taken,
-            device: sync(d),
-        },
-        Writable::GuestId => taken(d, Registers { guest: value, ..g }),
-        Writable::CursorId => taken(
-            d,
-            Registers {
-                cursorid: value,
-                ..g
-            },
-        ),
-        Writable::CursorX => taken(
-            d,
-            Registers {
-                cursorx: value,
-                ..g
-            },
-        ),
-        Writable::CursorY => taken(
-            d,
-            Registers {
-                cursory: value,
-                ..g
-            },
-        ),
-        Writable::CursorOn => write_cursor_on(d, value),
+    let good = in_range(w, value);
+    if !good {
+        return Written {
+            answer: WriteAnswer::BadValue,
+            device: d,
+        };
+    }
+    let asked = ring_asked(w, value);
+    if asked {
+        return write_ring(d, ring);
+    }
+    Written {
+        answer: WriteAnswer::Taken,
+        device: effect(d, value, w),
     }
 }
 

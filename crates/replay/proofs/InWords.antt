@@ -4,7 +4,7 @@ use mathlib.Core.List.{List}
 use Prim.Native.Nat.{ℕ}
 use Rattle.device.specs.declared.Device.{Device}
 use Rattle.register_write.specs.Registers.{written}
-use Rattle.device_run.specs.Run.{runOf}
+use Rattle.device_run.specs.Run.{Lent, runOf}
 use Rattle.register_write.proofs.Kept.{written-made}
 use Rattle.device_words.specs.declared.Held.the-variants.{Device as Holds}
 use Rattle.device_words.specs.Words.{wordsOf, heldIn}
@@ -15,7 +15,5 @@ module _ (w : List ℕ) (d : Device) (there : heldIn w ≡ Holds d) where
   pub write-held : (ring : List ℕ) (index v : ℕ) → heldIn (wordsOf (written d ring index v .device)) ≡ Holds (written d ring index v .device)
   write-held ring index v = read-back _ (written-made d ring index v (held-words w d there .is-made))
 
-  pub run-held : (ring framebuffer screen cursor : List ℕ) (budget : ℕ)
-      → heldIn (wordsOf (runOf d ring framebuffer screen cursor budget .device)) ≡ Holds (runOf d ring framebuffer screen cursor budget .device)
-  run-held ring framebuffer screen cursor budget =
-      read-back _ (run-made d ring framebuffer screen cursor budget (held-words w d there .is-made))
+  pub run-held : (l : Lent) (budget : ℕ) → heldIn (wordsOf (runOf d l budget .device)) ≡ Holds (runOf d l budget .device)
+  run-held l budget = read-back _ (run-made d l budget (held-words w d there .is-made))

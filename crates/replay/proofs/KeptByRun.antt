@@ -2,53 +2,54 @@
 -- answers 23.
 -- Assumes nothing.
 use mathlib.Core.Path.{_≡_, refl, sym, ap, _∙_}
-use mathlib.Core.Bool.{Bool, true, false, cond, _&&_}
+use mathlib.Core.Bool.{Bool, true, false, _&&_, true≢false}
+use mathlib.Core.Option.{Option, none, some}
 use mathlib.Core.List.{List, [], _∷_}
 use Prim.Native.Nat.{ℕ, zero, suc, _+_, _-_, _*_, _/_, _≤_, _<_}
 use native.Mathlib.Nat.{mul-le-mul, mul-comm, le-div-iff-mul-le}
 use native.Mathlib.Omega.{arith}
-use lib.Dec.{eqb, ltb, leb}
+use lib.Dec.{eqb, ltb}
 use lib.ListN.{length, getD, take, length-set, length-take, length-drop, length-append, List·getD-eq-default}
 use lib.Seq.{getD-set-other}
-use borrow.Author.Tests.{eqb-true, leb-true, ltb-true, ltb-false, eq-eqb, le-leb, lt-ltb, le-ltb}
-use Rattle.geometry.proofs.Tests.{by-bool, both}
+use borrow.Author.Tests.{eqb-true, ltb-true, ltb-false, eq-eqb, le-ltb}
+use borrow.Table.Steps.{cases}
+use Rattle.geometry.proofs.Tests.{both, by-cond}
+use Rattle.order.specs.declared.End.{End}
 use Rattle.order.specs.declared.End.the-variants.{Drained, Waiting, Fault}
 use Rattle.order.specs.declared.Cause.the-variants.{NotOffered, BadOperand, TooLong, BadNext}
-use Rattle.order.specs.Straight.{ends, exec, Line, beyond, next}
-use Rattle.order.specs.Straight as O
+use Rattle.order.specs.Straight.{Turn, ends, exec, Line, beyond, next}
 use Rattle.order.specs.Table.{unless, turnOf}
 use Rattle.order.specs.Claim.{Answer, spent, standing, ended, answerNumber}
 use Rattle.order.specs.Queue.{Ran, runs}
 use Rattle.order.proofs.QueueLaws.{runs-ends, runs-exec}
 use Rattle.ring.specs.declared.Ring.{Ring}
 use Rattle.ring.specs.Acceptance.{nextOf}
-use Rattle.ring.specs.Waiting.{ahead, between, words, waiting, carried, nextGood}
+use Rattle.ring.specs.Waiting.{ahead, between, words, waiting, carried, placed, nextGood}
+use Rattle.ring.proofs.Laws.{placed-when, when-placed}
 use Rattle.ring.proofs.WaitingLaws.{InRing, ahead-in, between-carried, length-words}
 use Rattle.geometry.specs.declared.Rect.{Rect}
 use Rattle.geometry.specs.Pixels.{inRect, inArea}
 use Rattle.raster.specs.Painters.{moves}
 use Rattle.raster.proofs.Laws.{length-filled, length-updated, length-copied, fill-outside, update-outside, copy-outside}
 use Rattle.cursor.specs.Plane.{shapeGood}
-use Rattle.command.specs.declared.Command.{Command}
-use Rattle.command.specs.declared.Command.the-variants as C
 use Rattle.command.specs.declared.Action.{Action}
-use Rattle.command.specs.declared.Action.the-variants.{Update, Fill, Copy, Define, Fence, Nothing}
-use Rattle.command.specs.declared.Turn.{Turn}
-use Rattle.command.specs.declared.Turn.the-variants.{Ends, Executes}
-use Rattle.command.specs.Commands.{kindOf, offered, headWords, sizeOf, headGood, operandsGood, actionOf, turnOn}
-use Rattle.command.specs.Words.{decoded, turnWords}
-use Rattle.command.proofs.Laws.{asTurn, turn-words}
+use Rattle.command.specs.declared.Action.the-variants as A
+use Rattle.command.specs.declared.Kind.{Kind}
+use Rattle.command.specs.declared.Kind.the-variants.{Update, RectFill, RectCopy, RectRopFill, RectRopCopy, DefineAlphaCursor, UpdateVerbose, Fence, Escape, Foreign}
+use Rattle.command.specs.Commands.{entry, kindIn}
+use Rattle.command.specs.Findings.{findsIn}
+use Rattle.command.proofs.Rules.{onMachine, turn-found}
 use Rattle.effect.specs.declared.Marks.{Marks}
-use Rattle.effect.specs.Effects.{Machine, screenAfter, cursorAfter, marksAfter, done}
+use Rattle.effect.specs.Effects.{Scene, scene, Machine, screenAfter, definedAfter, cursorAfter, marksAfter, done}
 use Rattle.run.specs.Turns.{Ready}
-use Rattle.run.specs.Run.{Scene, scene, machine, table, turnIn, stamped, Outcome, left, runWords, fitting, runIn}
+use Rattle.run.specs.Run.{knownOf, table, turnIn, stamped, Outcome, left, runWords, fitting, runIn}
 use Rattle.run.proofs.Laws.{next-says}
-use Rattle.run.proofs.Found.{Found, on-to, found}
+use Rattle.run.proofs.Found.{Found, found}
 use Rattle.device.specs.declared.Condition.{Condition}
 use Rattle.device.specs.declared.Condition.the-variants.{Idle, Running, Faulted}
 use Rattle.device.specs.declared.Device.{Device}
-use Rattle.device.specs.Device.{memoryOf, pixelsOf, widthOf, heightOf, ringGood, conditionGood, definedGood, made}
-use Rattle.device_run.specs.Run.{RunOutcome, lentGood, conditionAfter, settled, machineOf, ran, refusedRun, runBy, runOf}
+use Rattle.device.specs.Device.{memoryOf, pixelsOf, widthOf, heightOf, conditionGood, definedGood, modeFits, made}
+use Rattle.device_run.specs.Run.{Lent, RunOutcome, lentGood, conditionAfter, settled, machineOf, ran, refusedRun, runBy, runOf}
 use Rattle.device.proofs.Laws.{well-formed}
 use Rattle.device.proofs.Kept.{made-of}
 
@@ -71,14 +72,18 @@ told-small (ended (Fault BadOperand)) t = omega arith
 told-small (ended (Fault TooLong)) t = omega arith
 told-small (ended (Fault BadNext)) t = omega arith
 
-module _ {S : Type 0} (turn : S → List ℕ → O.Turn S) where
+-- a turn that ends executes nothing
+no-exec : {S : Type 0} {e : End} {n : ℕ} {t : S} → ends e ≡ exec n t → ⊥
+no-exec r = true≢false cc
+
+module _ {S : Type 0} (turn : S → List ℕ → Turn S) where
   -- what each executed turn keeps of the machine, a run keeps
   pub runs-keep : (Q : S → Type 0) → ((s t : S) (w : List ℕ) (n : ℕ) → turn s w ≡ exec n t → Q s → Q t) → (b : ℕ) (a : Line S) → Q (a .machine) → Q (runs turn b a .line .machine)
   unfolding runs
   runs-keep Q keeps zero a q = q
   runs-keep Q keeps (suc b) a q = go (next turn a) refl (λ n s h. runs-keep Q keeps b (beyond a n s) h)
     where
-      go : (t : O.Turn S) → next turn a ≡ t → ((n : ℕ) (s : S) → Q s → Q (runs turn b (beyond a n s) .line .machine)) → Q (runs turn (suc b) a .line .machine)
+      go : (t : Turn S) → next turn a ≡ t → ((n : ℕ) (s : S) → Q s → Q (runs turn b (beyond a n s) .line .machine)) → Q (runs turn (suc b) a .line .machine)
       go (ends e) r ih = rw (runs-ends turn b a e r) q
       go (exec n s) r ih = rw (runs-exec turn b a n s r) (ih n s (keeps (a .machine) s (a .words) n r q))
 
@@ -87,7 +92,7 @@ module _ {S : Type 0} (turn : S → List ℕ → O.Turn S) where
   runs-told zero a = tt
   runs-told (suc b) a = go (next turn a) refl (λ n s. runs-told b (beyond a n s))
     where
-      go : (t : O.Turn S) → next turn a ≡ t → ((n : ℕ) (s : S) → Told (runs turn b (beyond a n s) .answer)) → Told (runs turn (suc b) a .answer)
+      go : (t : Turn S) → next turn a ≡ t → ((n : ℕ) (s : S) → Told (runs turn b (beyond a n s) .answer)) → Told (runs turn (suc b) a .answer)
       go (ends e) r ih = rw (runs-ends turn b a e r) tt
       go (exec n s) r ih = rw (runs-exec turn b a n s r) (ih n s)
 
@@ -97,7 +102,7 @@ module _ {S : Type 0} (turn : S → List ℕ → O.Turn S) where
   runs-count zero a = omega arith
   runs-count (suc b) a = go (next turn a) refl (λ n s. runs-count b (beyond a n s))
     where
-      go : (t : O.Turn S) → next turn a ≡ t → ((n : ℕ) (s : S) → runs turn b (beyond a n s) .count ≤ b) → runs turn (suc b) a .count ≤ suc b
+      go : (t : Turn S) → next turn a ≡ t → ((n : ℕ) (s : S) → runs turn b (beyond a n s) .count ≤ b) → runs turn (suc b) a .count ≤ suc b
       go (ends e) r ih = rw (runs-ends turn b a e r) (omega arith)
       go (exec n s) r ih = rw (runs-exec turn b a n s r) (omega (arith, ih n s))
 
@@ -107,7 +112,7 @@ module _ {S : Type 0} (turn : S → List ℕ → O.Turn S) where
   runs-still never zero a = refl
   runs-still never (suc b) a = go (next turn a) refl
     where
-      go : (t : O.Turn S) → next turn a ≡ t → runs turn (suc b) a .line ≡ a
+      go : (t : Turn S) → next turn a ≡ t → runs turn (suc b) a .line ≡ a
       go (ends e) r = rw (runs-ends turn b a e r)
       go (exec n s) r = absurd (never (a .machine) (a .words) n s r)
 
@@ -115,42 +120,29 @@ module _ {S : Type 0} (turn : S → List ℕ → O.Turn S) where
 
 -- a cursor that a turn defines is good
 abbrev GoodAction : Action → Type 0
-GoodAction (Update r) = Unit {0}
-GoodAction (Fill r colour rop) = Unit {0}
-GoodAction (Copy from r rop) = Unit {0}
-GoodAction (Define s) = shapeGood s ≡ true
-GoodAction (Fence number) = Unit {0}
-GoodAction Nothing = Unit {0}
+GoodAction (A.Update r) = Unit {0}
+GoodAction (A.Fill r colour rop) = Unit {0}
+GoodAction (A.Copy from r rop) = Unit {0}
+GoodAction (A.Define s) = shapeGood s ≡ true
+GoodAction (A.Fence number) = Unit {0}
+GoodAction A.Nothing = Unit {0}
 
-good-action : (c : Command) → headGood c ≡ true → GoodAction (actionOf c)
-unfolding actionOf headGood
-good-action (C.Update r) e = tt
-good-action (C.RectFill colour r) e = tt
-good-action (C.RectCopy from r) e = tt
-good-action (C.RectRopFill colour r rop) e = tt
-good-action (C.RectRopCopy from r rop) e = tt
-good-action (C.DefineAlphaCursor s) e = e
-good-action (C.UpdateVerbose r reason) e = tt
-good-action (C.Fence number) e = tt
-good-action (C.Escape namespace bytes) e = tt
+-- the checks of a row make its action good
+good-action : (k : Kind) (w : List ℕ) → entry k .headGood w ≡ true → GoodAction (entry k .action w)
+unfolding entry
+good-action Update w e = tt
+good-action RectFill w e = tt
+good-action RectCopy w e = tt
+good-action RectRopFill w e = tt
+good-action RectRopCopy w e = tt
+good-action DefineAlphaCursor w e = e
+good-action UpdateVerbose w e = tt
+good-action Fence w e = tt
+good-action Escape w e = tt
+good-action Foreign w e = tt
 
-good-on : (c : Command) (l cap : ℕ) (a : Action) (n : ℕ) → turnOn c l cap ≡ Executes a n → GoodAction a
-unfolding turnOn
-good-on c l cap a n q =
-    let p = on-to (headGood c) _ (Fault BadOperand) a n q in
-    let r = on-to (leb (sizeOf c) cap) _ (Fault TooLong) a n (p .1) in
-    let t = on-to (leb (sizeOf c) l) _ Waiting a n (r .1) in
-    let u = on-to (operandsGood c) _ (Fault BadOperand) a n (t .1) in
-    let same : actionOf c ≡ a = cc (u .1) in
-    rw (sym same) (good-action c (p .0))
-
-good-turn : (cap : ℕ) (w : List ℕ) (a : Action) (n : ℕ) → turnWords cap w ≡ Executes a n → GoodAction a
-unfolding turnWords
-good-turn cap [] a n q = let z : _≡_ {A = ℕ} 0 1 = cc in absurd (omega arith)
-good-turn cap (x ∷ w) a n q =
-    let p = on-to (offered (kindOf x)) _ (Fault NotOffered) a n q in
-    let r = on-to (leb (headWords (kindOf x)) (length (x ∷ w))) _ Waiting a n (p .1) in
-    good-on (decoded (kindOf x) (x ∷ w)) (length (x ∷ w)) cap a n (r .1)
+good-found : (a : Action) (n : ℕ) (w : List ℕ) → Found a n w → GoodAction a
+good-found a n w f = rw (← (f .action)) (good-action (kindIn w) w (f .head))
 
 -- A machine with a screen as long as this one, and as this one from place `mode` on, a cursor image of 4,096 words, and a defined cursor that is good.
 pub record Sound (mode : ℕ) (screen : List ℕ) (m : Machine) : Type 0 where
@@ -159,14 +151,14 @@ pub record Sound (mode : ℕ) (screen : List ℕ) (m : Machine) : Type 0 where
   pub cursor : length (m .cursor) ≡ 4096
   pub defined : definedGood (m .marks .defined) ≡ true
 
-screen-length : (width rows : ℕ) (framebuffer : List ℕ) (a : Action) (screen : List ℕ) → length (screenAfter width rows framebuffer a screen) ≡ length screen
+screen-length : (s : Scene) (a : Action) (screen : List ℕ) → length (screenAfter s a screen) ≡ length screen
 unfolding screenAfter
-screen-length width rows framebuffer (Update r) screen = length-updated width rows r framebuffer screen
-screen-length width rows framebuffer (Fill r colour rop) screen = length-filled width rows r colour rop screen
-screen-length width rows framebuffer (Copy from r rop) screen = length-copied width rows (from .x) (from .y) r rop screen
-screen-length width rows framebuffer (Define s) screen = refl
-screen-length width rows framebuffer (Fence number) screen = refl
-screen-length width rows framebuffer Nothing screen = refl
+screen-length s (A.Update r) screen = length-updated (s .width) (s .rows) r (s .framebuffer) screen
+screen-length s (A.Fill r colour rop) screen = length-filled (s .width) (s .rows) r colour rop screen
+screen-length s (A.Copy from r rop) screen = length-copied (s .width) (s .rows) (from .x) (from .y) r rop screen
+screen-length s (A.Define shape) screen = refl
+screen-length s (A.Fence number) screen = refl
+screen-length s A.Nothing screen = refl
 
 -- places from width·rows on are in none of the rows
 pub beyond-rows : (width rows k : ℕ) → 0 < width → width * rows ≤ k → ltb (k / width) rows ≡ false
@@ -185,87 +177,92 @@ unfolding moves
 beyond-moves width rows sx sy r k wide h = rw (beyond-area width rows r k wide h)
 
 -- "No pixel outside the cut destination changes": none behind the mode
-module _ (width rows : ℕ) (framebuffer screen : List ℕ) (k : ℕ) (wide : 0 < width) (h : width * rows ≤ k) where
-  screen-there : (a : Action) → k < length screen → getD (screenAfter width rows framebuffer a screen) k 0 ≡ getD screen k 0
-  unfolding screenAfter
-  screen-there (Update r) l = update-outside width rows r screen k l framebuffer (beyond-area width rows r k wide h)
-  screen-there (Fill r colour rop) l = fill-outside width rows r screen k l colour rop (beyond-area width rows r k wide h)
-  screen-there (Copy from r rop) l = copy-outside width rows r screen k l (from .x) (from .y) rop (beyond-moves width rows (from .x) (from .y) r k wide h)
-  screen-there (Define s) l = refl
-  screen-there (Fence number) l = refl
-  screen-there Nothing l = refl
+module _ (s : Scene) (screen : List ℕ) (k : ℕ) (wide : 0 < s .width) (h : s .width * s .rows ≤ k) where
+  outside : (r : Rect) → inArea (s .width) (s .rows) r k ≡ false
+  outside r = beyond-area (s .width) (s .rows) r k wide h
 
-  screen-beyond : (a : Action) → getD (screenAfter width rows framebuffer a screen) k 0 ≡ getD screen k 0
+  screen-there : (a : Action) → k < length screen → getD (screenAfter s a screen) k 0 ≡ getD screen k 0
+  unfolding screenAfter
+  screen-there (A.Update r) l = update-outside (s .width) (s .rows) r screen k l (s .framebuffer) (outside r)
+  screen-there (A.Fill r colour rop) l = fill-outside (s .width) (s .rows) r screen k l colour rop (outside r)
+  screen-there (A.Copy from r rop) l =
+      copy-outside (s .width) (s .rows) r screen k l (from .x) (from .y) rop (beyond-moves (s .width) (s .rows) (from .x) (from .y) r k wide h)
+  screen-there (A.Define shape) l = refl
+  screen-there (A.Fence number) l = refl
+  screen-there A.Nothing l = refl
+
+  screen-beyond : (a : Action) → getD (screenAfter s a screen) k 0 ≡ getD screen k 0
   screen-beyond a =
-      by-bool (ltb k (length screen))
+      cases (ltb k (length screen))
       (λ t. screen-there a (ltb-true k (length screen) t))
       (λ f.
       let l : length screen ≤ k = ltb-false k (length screen) f in
-      List·getD-eq-default (screenAfter width rows framebuffer a screen) 0 (rw (screen-length width rows framebuffer a screen) l)
+      List·getD-eq-default (screenAfter s a screen) 0 (rw (screen-length s a screen) l)
       ∙ sym (List·getD-eq-default screen 0 l))
 
 cursor-length : (a : Action) (w cursor : List ℕ) → Ready a (length w) → length cursor ≡ 4096 → length (cursorAfter a w cursor) ≡ 4096
 unfolding cursorAfter
-cursor-length (Update r) w cursor h l = l
-cursor-length (Fill r colour rop) w cursor h l = l
-cursor-length (Copy from r rop) w cursor h l = l
-cursor-length (Define s) w cursor h l =
+cursor-length (A.Update r) w cursor h l = l
+cursor-length (A.Fill r colour rop) w cursor h l = l
+cursor-length (A.Copy from r rop) w cursor h l = l
+cursor-length (A.Define s) w cursor h l =
     let n : ℕ = s .w * s .h in
     let small : n ≤ 4096 = mul-le-mul {n₂ = 64} {m₂ = 64} (h .1) (h .2) in
     let there : 6 + n ≤ length w = h .0 in
     rw (length-append, length-take, length-drop 6 w, length-drop n cursor, l) (omega arith)
-cursor-length (Fence number) w cursor h l = l
-cursor-length Nothing w cursor h l = l
+cursor-length (A.Fence number) w cursor h l = l
+cursor-length A.Nothing w cursor h l = l
 
 defined-kept : (a : Action) (m : Marks) → GoodAction a → definedGood (m .defined) ≡ true → definedGood (marksAfter a m .defined) ≡ true
-unfolding marksAfter definedGood
-defined-kept (Update r) m g e = e
-defined-kept (Fill r colour rop) m g e = e
-defined-kept (Copy from r rop) m g e = e
-defined-kept (Define s) m g e = g
-defined-kept (Fence number) m g e = e
-defined-kept Nothing m g e = e
+unfolding definedAfter definedGood
+defined-kept (A.Update r) m g e = e
+defined-kept (A.Fill r colour rop) m g e = e
+defined-kept (A.Copy from r rop) m g e = e
+defined-kept (A.Define s) m g e = g
+defined-kept (A.Fence number) m g e = e
+defined-kept A.Nothing m g e = e
 
 module _ (s : Scene) (screen : List ℕ) (wide : 0 < s .width) where
-  -- document 01's commands, as they act on a machine
-  abbrev does : Action → List ℕ → Machine → Machine
-  does = done (s .width) (s .rows) (s .framebuffer)
-
   -- sound in this scene
   abbrev Right : Machine → Type 0
   Right = Sound (s .width * s .rows) screen
 
-  sound-done : (m : Machine) (a : Action) (n : ℕ) (w : List ℕ) → Found a n w → GoodAction a → Right m → Right (does a (take n w) m)
+  sound-done : (m : Machine) (a : Action) (n : ℕ) (w : List ℕ) → Found a n w → Right m → Right (done s a (take n w) m)
   unfolding done
-  sound-done m a n w f g h = record {
-    same-length = screen-length (s .width) (s .rows) (s .framebuffer) a (m .screen) ∙ h .same-length;
-    beyond-mode = λ k l. screen-beyond (s .width) (s .rows) (s .framebuffer) (m .screen) k wide l a ∙ h .beyond-mode k l;
+  sound-done m a n w f h = record {
+    same-length = screen-length s a (m .screen) ∙ h .same-length;
+    beyond-mode = λ k l. screen-beyond s (m .screen) k wide l a ∙ h .beyond-mode k l;
     cursor = ap {B = ℕ} (λ (l : List ℕ). length l) (f .own (m .cursor)) ∙ cursor-length a w (m .cursor) (f .ready) (h .cursor);
-    defined = defined-kept a (m .marks) g (h .defined);
+    defined = defined-kept a (m .marks) (good-found a n w f) (h .defined);
   }
 
-  sound-as : (cap : ℕ) (m t : Machine) (w : List ℕ) (n : ℕ) (found-turn : Turn) → turnWords cap w ≡ found-turn → asTurn does m w found-turn ≡ exec n t → Right m → Right t
-  sound-as cap m t w n (Ends e) q r h = let z : _≡_ {A = ℕ} 0 1 = cc in absurd (omega arith)
-  sound-as cap m t w n (Executes a k) q r h =
-      let same : does a (take k w) m ≡ t = cc in
-      rw (sym same) (sound-done m a k w (found cap w a k q) (good-turn cap w a k q) h)
+  sound-found : (cap : ℕ) (m t : Machine) (w : List ℕ) (n : ℕ) (f : Turn (Option Action)) → 1 ≤ length w → findsIn tt cap w ≡ f
+      → onMachine (done s) m w f ≡ exec n t → Right m → Right t
+  sound-found cap m t w n (ends e) l q r h = absurd (no-exec r)
+  sound-found cap m t w n (exec k none) l q r h = absurd (no-exec r)
+  sound-found cap m t w n (exec k (some a)) l q r h =
+      let same : done s a (take k w) m ≡ t = cc in
+      rw (← same) (sound-done m a k w (found cap w a k l q) h)
 
   -- an executed turn keeps a sound machine
   pub sound-exec : (cap : ℕ) (m t : Machine) (w : List ℕ) (n : ℕ) → turnOf cap (table s) m w ≡ exec n t → Right m → Right t
-  sound-exec cap m t w n r h = sound-as cap m t w n (turnWords cap w) refl (sym (turn-words does cap m w) ∙ r) h
+  unfolding turnOf
+  sound-exec cap m t [] n r h = absurd (no-exec r)
+  sound-exec cap m t (x ∷ w) n r h =
+      sound-found cap m t (x ∷ w) n _ (omega arith) refl (sym (turn-found knownOf (done s) cap m (x ∷ w)) ∙ r) h
 
   -- and so does one of a run
   pub sound-turn : (g : Ring) (after : ℕ) (m t : Machine) (w : List ℕ) (n : ℕ) → turnIn s g after m w ≡ exec n t → Right m → Right t
   unfolding turnIn unless
   sound-turn g after m t w n q h =
-      by-bool (nextGood g after)
+      cases (nextGood g after)
       (λ y. sound-exec (carried (g .min) (g .max)) m t w n (rw y at q) h)
-      (λ f. let r : ends (Fault BadNext) ≡ exec n t = rw f at q in let z : _≡_ {A = ℕ} 0 1 = cc in absurd (omega arith))
+      (λ f. absurd (no-exec (rw f at q)))
 
 -- no turn executes where NEXT_CMD is unusable
 never-next : (s : Scene) (g : Ring) (after : ℕ) → nextGood g after ≡ false → (m : Machine) (w : List ℕ) (n : ℕ) (t : Machine) → turnIn s g after m w ≡ exec n t → ⊥
 unfolding turnIn unless
-never-next s g after f m w n t q = let r : ends (Fault BadNext) ≡ exec n t = rw f at q in let z : _≡_ {A = ℕ} 0 1 = cc in omega arith
+never-next s g after f m w n t q = no-exec (rw f at q)
 
 -- ---- a run in a ring memory
 
@@ -299,7 +296,7 @@ module _ (s : Scene) (g : Ring) (budget : ℕ) (ring : List ℕ) (m : Machine) w
   gone-in : g .min ≤ g .stop → g .stop < g .max → InRing (g .min) (g .max) (g .stop) gone
   unfolding waiting
   gone-in a b =
-      by-bool (nextGood g (nextOf ring))
+      cases (nextGood g (nextOf ring))
       (λ y.
       let q = next-says g (nextOf ring) y in
       let c = between-carried (g .min) (g .max) (g .stop) there a b (q .0) (q .1) in
@@ -317,8 +314,8 @@ module _ (s : Scene) (g : Ring) (budget : ℕ) (ring : List ℕ) (m : Machine) w
   unfolding left stamped
   stays-words = record {
     told = runs-told (turnIn s g (nextOf ring)) budget (record { words = waits; machine = m });
-    ring-length = by-bool (eqb (did .count) 0) (λ t. rw t) (λ f. rw f (length-set ring 3 _));
-    other-words = λ i h. by-bool (eqb (did .count) 0) (λ t. rw t) (λ f. rw f (getD-set-other ring 3 i _ 0 h));
+    ring-length = cases (eqb (did .count) 0) (λ t. rw t) (λ f. rw f (length-set ring 3 _));
+    other-words = λ i h. cases (eqb (did .count) 0) (λ t. rw t) (λ f. rw f (getD-set-other ring 3 i _ 0 h));
     untouched = λ e. let t = eq-eqb (did .count) 0 e in rw t;
     min = refl;
     max = refl;
@@ -329,7 +326,7 @@ module _ (s : Scene) (g : Ring) (budget : ℕ) (ring : List ℕ) (m : Machine) w
   pub run-stays : Stays g ring (runIn s g budget ring m)
   unfolding runIn runWords
   run-stays =
-      by-bool (fitting g (length ring) (length (m .cursor)))
+      cases (fitting g (length ring) (length (m .cursor)))
       (λ t. rw t stays-words)
       (λ f. rw f (record {
         told = tt;
@@ -346,7 +343,7 @@ module _ (s : Scene) (g : Ring) (budget : ℕ) (ring : List ℕ) (m : Machine) w
   pub run-count : runIn s g budget ring m .count ≤ budget
   unfolding runIn runWords left
   run-count =
-      by-bool (fitting g (length ring) (length (m .cursor)))
+      cases (fitting g (length ring) (length (m .cursor)))
       (λ t. rw t (runs-count (turnIn s g (nextOf ring)) budget (record { words = waits; machine = m })))
       (λ f. rw f (omega arith))
 
@@ -354,7 +351,7 @@ module _ (s : Scene) (g : Ring) (budget : ℕ) (ring : List ℕ) (m : Machine) w
   pub run-sound : (screen : List ℕ) → 0 < s .width → Sound (s .width * s .rows) screen m → Sound (s .width * s .rows) screen (runIn s g budget ring m .machine)
   unfolding runIn runWords left
   run-sound screen wide h =
-      by-bool (fitting g (length ring) (length (m .cursor)))
+      cases (fitting g (length ring) (length (m .cursor)))
       (λ t. rw t (runs-keep (turnIn s g (nextOf ring)) (Sound (s .width * s .rows) screen) (λ a b w n. sound-turn s screen wide g (nextOf ring) a b w n) budget (record { words = waits; machine = m }) h))
       (λ f. rw f h)
 
@@ -368,27 +365,23 @@ pub data Refusal : ℕ → Type 0 where
   fault-stands : Refusal 23
   too-large : Refusal 24
 
-module _ (d : Device) (ring framebuffer screen cursor : List ℕ) where
+module _ (d : Device) (l : Lent) where
   -- what a run that is not refused has shown
   pub record Open (g : Ring) : Type 0 where
     pub is-made : made d ≡ true
-    pub lengths : lentGood d (length ring) (length framebuffer) (length screen) (length cursor) ≡ true
+    pub lengths : lentGood d l ≡ true
     pub is-configured : d .registers .config ≡ true
     pub is-enabled : d .registers .enable ≡ true
-    pub mode : leb (widthOf d * heightOf d) (pixelsOf d) ≡ true
+    pub mode : modeFits d ≡ true
     pub running : d .condition ≡ Running g
 
   abbrev pub ranIn : ℕ → Ring → Outcome
-  ranIn budget g = runIn (scene (widthOf d) (heightOf d) framebuffer) g budget ring (machineOf d screen cursor)
-
-  by-cond : (P : RunOutcome → Type 0) (b : Bool) {x y : RunOutcome} → (b ≡ true → P x) → (b ≡ false → P y) → P (cond b x y)
-  by-cond P true f g = f refl
-  by-cond P false f g = g refl
+  ranIn budget g = runIn (scene (widthOf d) (heightOf d) (l .framebuffer)) g budget (l .ring) (machineOf d l)
 
   by-condition : (P : RunOutcome → Type 0) (budget : ℕ) (c : Condition) → d .condition ≡ c
-      → ((a : ℕ) → Refusal a → P (refusedRun d ring framebuffer screen cursor a))
-      → ((g : Ring) → d .condition ≡ Running g → P (ran d (ranIn budget g)))
-      → P (runBy d ring framebuffer screen cursor budget c)
+      → ((a : ℕ) → Refusal a → P (refusedRun d l a))
+      → ((g : Ring) → d .condition ≡ Running g → P (ran d l (ranIn budget g)))
+      → P (runBy d l budget c)
   unfolding runBy
   by-condition P budget Idle e no-run goes = no-run 22 not-configured
   by-condition P budget (Running g) e no-run goes = goes g e
@@ -396,62 +389,62 @@ module _ (d : Device) (ring framebuffer screen cursor : List ℕ) where
 
   -- what holds of every refusal, and of every run that goes on, holds of every run
   pub by-run : (P : RunOutcome → Type 0) (budget : ℕ)
-      → ((a : ℕ) → Refusal a → P (refusedRun d ring framebuffer screen cursor a))
-      → ((g : Ring) → Open g → P (ran d (ranIn budget g)))
-      → P (runOf d ring framebuffer screen cursor budget)
+      → ((a : ℕ) → Refusal a → P (refusedRun d l a))
+      → ((g : Ring) → Open g → P (ran d l (ranIn budget g)))
+      → P (runOf d l budget)
   unfolding runOf
   by-run P budget no-run goes =
       by-cond P (made d)
-      (λ m. by-cond P (lentGood d (length ring) (length framebuffer) (length screen) (length cursor))
-      (λ l. by-cond P (d .registers .config)
+      (λ m. by-cond P (lentGood d l)
+      (λ n. by-cond P (d .registers .config)
       (λ c. by-cond P (d .registers .enable)
-      (λ e. by-cond P (leb (widthOf d * heightOf d) (pixelsOf d))
+      (λ e. by-cond P (modeFits d)
       (λ f. by-condition P budget (d .condition) refl no-run
-      (λ g r. goes g (record { is-made = m; lengths = l; is-configured = c; is-enabled = e; mode = f; running = r })))
+      (λ g r. goes g (record { is-made = m; lengths = n; is-configured = c; is-enabled = e; mode = f; running = r })))
       (λ f. no-run 24 too-large))
       (λ e. no-run 21 disabled))
       (λ c. no-run 22 not-configured))
-      (λ l. no-run 20 lent-length))
+      (λ n. no-run 20 lent-length))
       (λ m. no-run 22 not-configured)
 
   module _ (g : Ring) (o : Open g) where
     -- the machine that such a run starts with is sound
-    pub open-sound : Sound (widthOf d * heightOf d) screen (machineOf d screen cursor)
+    pub open-sound : Sound (widthOf d * heightOf d) (l .screen) (machineOf d l)
     unfolding lentGood
     open-sound =
-        let a = both (eqb (length ring) (memoryOf d / 4)) _ (o .lengths) in
-        let b = both (eqb (length framebuffer) (pixelsOf d)) _ (a .1) in
-        let c = both (eqb (length screen) (pixelsOf d)) _ (b .1) in
+        let a = both (eqb (length (l .ring)) (memoryOf d / 4)) _ (o .lengths) in
+        let b = both (eqb (length (l .framebuffer)) (pixelsOf d)) _ (a .1) in
+        let c = both (eqb (length (l .screen)) (pixelsOf d)) _ (b .1) in
         record { same-length = refl; beyond-mode = λ k h. refl; cursor = eqb-true _ _ (c .1); defined = well-formed d (o .is-made) .defined }
 
     -- and so is the one that it leaves
-    pub left-sound : (budget : ℕ) → Sound (widthOf d * heightOf d) screen (ranIn budget g .machine)
+    pub left-sound : (budget : ℕ) → Sound (widthOf d * heightOf d) (l .screen) (ranIn budget g .machine)
     left-sound budget =
-        run-sound (scene (widthOf d) (heightOf d) framebuffer) g budget ring (machineOf d screen cursor) screen (well-formed d (o .is-made) .width-low) open-sound
+        run-sound (scene (widthOf d) (heightOf d) (l .framebuffer)) g budget (l .ring) (machineOf d l) (l .screen) (well-formed d (o .is-made) .width-low) open-sound
 
-    pub left-stays : (budget : ℕ) → Stays g ring (ranIn budget g)
-    left-stays budget = run-stays (scene (widthOf d) (heightOf d) framebuffer) g budget ring (machineOf d screen cursor)
+    pub left-stays : (budget : ℕ) → Stays g (l .ring) (ranIn budget g)
+    left-stays budget = run-stays (scene (widthOf d) (heightOf d) (l .framebuffer)) g budget (l .ring) (machineOf d l)
 
     -- and the remembered ring good
-    pub open-ring : ringGood (memoryOf d) g ≡ true
+    pub open-ring : placed g (memoryOf d / 4) ≡ true
     unfolding conditionGood
     open-ring =
         let c : conditionGood (memoryOf d) (d .registers .config) (d .condition) ≡ true = well-formed d (o .is-made) .condition in
         let q : conditionGood (memoryOf d) true (Running g) ≡ true = rw (o .is-configured, o .running) at c in
         q
 
-  ring-kept : (memory : ℕ) (g : Ring) (r : Outcome) → Stays g ring r → ringGood memory g ≡ true → ringGood memory (r .place) ≡ true
-  unfolding ringGood
-  ring-kept memory g r s e =
-      let a = both (leb 4 (g .min)) _ e in
-      let b = both (leb (g .max) (memory / 4)) _ (a .1) in
-      let c = both (leb (g .min + 2560) (g .max)) _ (b .1) in
-      let f = both (leb (g .min) (g .stop)) _ (c .1) in
-      let from = leb-true (g .min) (g .stop) (f .0) in
-      let below = ltb-true (g .stop) (g .max) (f .1) in
-      rw (s .min, s .max, a .0, b .0, c .0, le-leb (g .min) (r .place .stop) (s .stop-low from below)) (lt-ltb (r .place .stop) (g .max) (s .stop-high from below))
+  ring-kept : (words : ℕ) (g : Ring) (r : Outcome) → Stays g (l .ring) r → placed g words ≡ true → placed (r .place) words ≡ true
+  ring-kept words g r s e =
+      let p = placed-when g words e in
+      when-placed (r .place) words (record {
+        past-head = rw (s .min) (p .past-head);
+        fits = rw (s .max) (p .fits);
+        size = rw (s .min, s .max) (p .size);
+        from = rw (s .min) (s .stop-low (p .from) (p .below));
+        below = rw (s .max) (s .stop-high (p .from) (p .below));
+      })
 
-  condition-kept : (memory : ℕ) (a : Answer) (g : Ring) → ringGood memory g ≡ true → conditionGood memory true (conditionAfter a g) ≡ true
+  condition-kept : (memory : ℕ) (a : Answer) (g : Ring) → placed g (memory / 4) ≡ true → conditionGood memory true (conditionAfter a g) ≡ true
   unfolding conditionGood conditionAfter
   condition-kept memory spent g e = e
   condition-kept memory standing g e = e
@@ -462,7 +455,7 @@ module _ (d : Device) (ring framebuffer screen cursor : List ℕ) where
   settled-made : (budget : ℕ) (g : Ring) → Open g → made (settled d (ranIn budget g)) ≡ true
   settled-made budget g o =
       let w = well-formed d (o .is-made) in
-      let place = ring-kept (memoryOf d) g (ranIn budget g) (left-stays g o budget) (open-ring g o) in
+      let place = ring-kept (memoryOf d / 4) g (ranIn budget g) (left-stays g o budget) (open-ring g o) in
       made-of (settled d (ranIn budget g)) (record {
         memory-words = w .memory-words;
         memory-low = w .memory-low;
@@ -478,14 +471,14 @@ module _ (d : Device) (ring framebuffer screen cursor : List ℕ) where
       })
 
   -- a run leaves a made device made
-  pub run-made : (budget : ℕ) → made d ≡ true → made (runOf d ring framebuffer screen cursor budget .device) ≡ true
+  pub run-made : (budget : ℕ) → made d ≡ true → made (runOf d l budget .device) ≡ true
   run-made budget m = by-run (λ (r : RunOutcome). made (r .device) ≡ true) budget (λ a r. m) (settled-made budget)
 
   -- ---- "Answers 20 to 34 change nothing; a run's count is then 0"
 
-  pub refused-run : (budget : ℕ) → 20 ≤ runOf d ring framebuffer screen cursor budget .answer
-      → runOf d ring framebuffer screen cursor budget ≡ refusedRun d ring framebuffer screen cursor (runOf d ring framebuffer screen cursor budget .answer)
+  pub refused-run : (budget : ℕ) → 20 ≤ runOf d l budget .answer
+      → runOf d l budget ≡ refusedRun d l (runOf d l budget .answer)
   refused-run budget =
-      by-run (λ (r : RunOutcome). 20 ≤ r .answer → r ≡ refusedRun d ring framebuffer screen cursor (r .answer)) budget
+      by-run (λ (r : RunOutcome). 20 ≤ r .answer → r ≡ refusedRun d l (r .answer)) budget
       (λ a r h. refl)
       (λ g o h. absurd (omega (arith, told-small (ranIn budget g .answer) (left-stays g o budget .told))))

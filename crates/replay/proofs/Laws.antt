@@ -16,11 +16,12 @@ use Rattle.order.proofs.QueueLaws.{play-ops, demand3}
 use Rattle.ring.specs.declared.Ring.{Ring}
 use Rattle.ring.specs.Waiting.{carried}
 use Rattle.command.proofs.Laws.{command-laws}
-use Rattle.effect.specs.Effects.{Machine}
+use Rattle.effect.specs.Effects.{Machine, done}
+use Rattle.run.specs.Run.{knownOf}
 use Rattle.device.specs.declared.Condition.the-variants.{Running}
 use Rattle.device.specs.Device.{conditionOf}
 use Rattle.replay.specs.Calls.{World, Outcome, perform, History, performAll}
-use Rattle.replay.specs.Demand.{isStart, turnIn, machineIn, callOf, numbersOf, Demand, Shown}
+use Rattle.replay.specs.Demand.{isStart, sceneOf, turnIn, machineIn, callOf, numbersOf, Demand, Shown}
 use Rattle.replay.specs.Replay.{opsOf, walk, walkOf, Replays}
 use Rattle.replay.proofs.Places.{in-words}
 use Rattle.replay.proofs.Steps.{Started, Shows, Step, shows-stands, shows-ring, shows-stop, append-step, run-step, started, start-shows}
@@ -67,11 +68,11 @@ module _ (g : Ring) (w₀ : World) (e : isStart w₀ ≡ true) (q : conditionOf 
   shown : Shows g w₀ (length (fed (played .events))) (history .world) (played .queue)
   shown = rw zero-add at (led .shows)
 
-  laws : (8 ≤ cap g w₀) × Laws (cap g w₀) (turn g w₀)
+  laws : (10 ≤ cap g w₀) × Laws (cap g w₀) (turn g w₀)
   laws =
       let i = in-words (g .min) (g .max) (w₀ .lent .ring) (start-shows g w₀ e q .holds) in
-      let h : 8 ≤ cap g w₀ = omega arith in
-      (h, command-laws _ (cap g w₀) h)
+      let h : 10 ≤ cap g w₀ = omega arith in
+      (h, command-laws knownOf (done (sceneOf w₀)) (cap g w₀) h)
 
   -- DEMAND 3: from every start, every list of appends and runs through the public calls.
   pub demand-3 : Shown g w₀ os history

@@ -6,10 +6,10 @@ use mathlib.Core.List.{List, [], _∷_}
 use mathlib.Core.Logic.{inl, inr}
 use Prim.Native.Nat.{ℕ, zero, suc, _*_, _≤_, _<_}
 use native.Mathlib.Omega.{arith}
-use lib.Dec.{eqb, ltb, leb}
+use lib.Dec.{eqb, ltb}
 use lib.ListN.{length, getD, List·getD-eq-default}
 use borrow.Author.Tests.{ltb-true, ltb-false, eq-eqb}
-use Rattle.geometry.proofs.Tests.{by-bool}
+use borrow.Table.Steps.{cases}
 use Rattle.order.specs.declared.End.the-variants.{Drained, Waiting, Fault}
 use Rattle.order.specs.declared.Cause.the-variants.{NotOffered, BadOperand, TooLong, BadNext}
 use Rattle.order.specs.Claim.{Answer, spent, standing, ended, answerNumber}
@@ -24,19 +24,18 @@ use Rattle.picture.specs.declared.Over.{Over}
 use Rattle.picture.specs.Picture.{composed}
 use Rattle.picture.proofs.Laws.{length-composed, beyond-stays}
 use Rattle.device.specs.declared.Device.{Device}
-use Rattle.device.specs.Device.{pixelsOf, widthOf, heightOf, sizesGood, made}
+use Rattle.device.specs.Device.{pixelsOf, widthOf, heightOf, definedOf, sizesGood, modeFits, made}
 use Rattle.device.specs.Making.{madeOf}
-use Rattle.register_write.specs.Answers as A
 use Rattle.register_read.specs.Registers.{readBy, readOf}
 use Rattle.register_write.specs.Registers.{written}
 use Rattle.adapter.specs.Picture.{cursorOver, lengthsGood, pictureOf}
-use Rattle.device_run.specs.Run.{RunOutcome, machineOf, refusedRun, ran, runOf}
-use Rattle.run.specs.Run.{scene}
+use Rattle.device_run.specs.Run.{Lent, RunOutcome, machineOf, refusedRun, ran, runOf}
+use Rattle.effect.specs.Effects.{scene}
 use Rattle.device.proofs.Laws.{well-formed}
-use Rattle.register_write.proofs.Kept.{Left, same, changed, forgotten, remembered, left, sizes-kept}
+use Rattle.register_write.proofs.Kept.{sizes-kept, marks-kept}
 use Rattle.register_write.proofs.Refusals.{Why, no-register, read-only, bad-value, wrong-length, ring-refused, is-taken, why, unmade-write}
 use Rattle.replay.proofs.KeptByRun.{Told, Refusal, lent-length, disabled, not-configured, fault-stands, too-large, Open, ranIn, by-run, left-sound, left-stays, open-sound, refused-run, run-count, beyond-rows}
-use Rattle.replay.specs.Calls.{Memories, World, Call, make, write, read, run, append, picture, offscreen, fence, passed, lend, Outcome, perform, performAll}
+use Rattle.replay.specs.Calls.{World, Call, make, write, read, run, append, picture, offscreen, fence, passed, lend, Outcome, perform, performAll}
 use Rattle.replay.specs.Harm.{row, among, SameBut, InMode, WriteChanges, RunChanges, AppendChanges, PictureChanges, OnlyNamed, Safe, Harmless}
 use Rattle.replay.proofs.Starts.{writes-number, refused-stays}
 
@@ -44,24 +43,24 @@ use Rattle.replay.proofs.Starts.{writes-number, refused-stays}
 
 make-answers : (memory pixels : ℕ) (w : World) → among (perform (make memory pixels) w .answer) (row (make memory pixels)) ≡ true
 unfolding perform madeOf
-make-answers memory pixels w = by-bool (sizesGood memory pixels) (λ t. rw t) (λ f. rw f)
+make-answers memory pixels w = cases (sizesGood memory pixels) (λ t. rw t) (λ f. rw f)
 
 why-row : (d : Device) (ring : List ℕ) (index value a : ℕ) → Why d ring index value a → among a (row (write index value)) ≡ true
-why-row d ring index value a (no-register e) = by-bool (eqb index 20) (λ t. rw t) (λ f. rw f)
-why-row d ring index value a (read-only r e) = by-bool (eqb index 20) (λ t. rw t) (λ f. rw f)
-why-row d ring index value a (bad-value w e f) = by-bool (eqb index 20) (λ t. rw t) (λ f. rw f)
+why-row d ring index value a (no-register e) = cases (eqb index 20) (λ t. rw t) (λ f. rw f)
+why-row d ring index value a (read-only r e) = cases (eqb index 20) (λ t. rw t) (λ f. rw f)
+why-row d ring index value a (bad-value w e f) = cases (eqb index 20) (λ t. rw t) (λ f. rw f)
 why-row d ring index value a (wrong-length e o n) = rw (eq-eqb index 20 (writes-number index ConfigDone e))
-why-row d ring index value a (ring-refused e o n u) = by-bool (eqb index 20) (λ t. rw t) (λ f. rw f)
-why-row d ring index value a (is-taken w e t r) = by-bool (eqb index 20) (λ t. rw t) (λ f. rw f)
+why-row d ring index value a (ring-refused e o n u) = cases (eqb index 20) (λ t. rw t) (λ f. rw f)
+why-row d ring index value a (is-taken w e t r) = cases (eqb index 20) (λ t. rw t) (λ f. rw f)
 
 write-answers : (index value : ℕ) (w : World) → among (perform (write index value) w .answer) (row (write index value)) ≡ true
 unfolding perform
 write-answers index value w =
     let d = w .device in
     let ring = w .lent .ring in
-    by-bool (made d)
+    cases (made d)
     (λ m. why-row d ring index value (written d ring index value .answer) (why d ring index value m))
-    (λ f. rw (unmade-write d ring index value f) (by-bool (eqb index 20) (λ t. rw t) (λ f. rw f)))
+    (λ f. rw (unmade-write d ring index value f) (cases (eqb index 20) (λ t. rw t) (λ f. rw f)))
 
 read-row : (d : Device) (r : Register) → among (readBy d r .answer) (0 ∷ 30 ∷ []) ≡ true
 unfolding readBy
@@ -71,7 +70,7 @@ read-row d Absent = refl
 
 read-answers : (index : ℕ) (w : World) → among (perform (read index) w .answer) (row (read index)) ≡ true
 unfolding perform readOf
-read-answers index w = by-bool (made (w .device)) (λ t. rw t (read-row (w .device) (registerOf index))) (λ f. rw f)
+read-answers index w = cases (made (w .device)) (λ t. rw t (read-row (w .device) (registerOf index))) (λ f. rw f)
 
 told-row : (budget : ℕ) (a : Answer) → Told a → among (answerNumber a) (row (run budget)) ≡ true
 told-row budget spent t = refl
@@ -95,23 +94,23 @@ unfolding perform
 run-answers budget w =
     let d = w .device in
     let m = w .lent in
-    by-run d (m .ring) (m .framebuffer) (m .screen) (m .cursor) (λ (o : RunOutcome). among (o .answer) (row (run budget)) ≡ true) budget
+    by-run d m (λ (o : RunOutcome). among (o .answer) (row (run budget)) ≡ true) budget
     (refusal-row budget)
     (λ g o.
-    told-row budget (ranIn d (m .ring) (m .framebuffer) (m .screen) (m .cursor) budget g .answer)
-    (left-stays d (m .ring) (m .framebuffer) (m .screen) (m .cursor) g o budget .told))
+    told-row budget (ranIn d m budget g .answer)
+    (left-stays d m g o budget .told))
 
 append-answers : (word : ℕ) (w : World) → among (perform (append word) w .answer) (row (append word)) ≡ true
 unfolding perform appendOf
-append-answers word w = by-bool (canAppend (w .lent .ring)) (λ t. rw t) (λ f. rw f)
+append-answers word w = cases (canAppend (w .lent .ring)) (λ t. rw t) (λ f. rw f)
 
 picture-answers : (w : World) → among (perform picture w .answer) (row picture) ≡ true
 unfolding perform pictureOf
 picture-answers w =
     let d = w .device in
-    by-bool (made d)
-    (λ m. by-bool (lengthsGood (pixelsOf d) (length (w .lent .screen)) (length (w .lent .cursor)) (length (w .lent .output)))
-    (λ l. by-bool (leb (widthOf d * heightOf d) (pixelsOf d)) (λ t. rw (m, l, t)) (λ f. rw (m, l, f)))
+    cases (made d)
+    (λ m. cases (lengthsGood (pixelsOf d) (length (w .lent .screen)) (length (w .lent .cursor)) (length (w .output)))
+    (λ l. cases (modeFits d) (λ t. rw (m, l, t)) (λ f. rw (m, l, f)))
     (λ l. rw (m, l)))
     (λ f. rw f)
 
@@ -120,41 +119,31 @@ picture-answers w =
 pub all-same : {changes : ℕ → Type 0} (l : List ℕ) → SameBut changes l l
 all-same l = record { same-length = refl; elsewhere = λ i h. refl }
 
-left-marks : (d : Device) {o : A.Outcome} → Left d o → (o .device .defined ≡ d .defined) × (o .device .fence ≡ d .fence)
-left-marks d (same a) = (refl, refl)
-left-marks d (changed g p busy mode config) = (refl, refl)
-left-marks d forgotten = (refl, refl)
-left-marks d (remembered g good) = (refl, refl)
-
-marks-kept : (d : Device) (ring : List ℕ) (index value : ℕ) → (written d ring index value .device .defined ≡ d .defined) × (written d ring index value .device .fence ≡ d .fence)
-marks-kept d ring index value =
-    by-bool (made d) (λ m. left-marks d (left d m ring index value)) (λ f. rw (unmade-write d ring index value f) (refl, refl))
-
 write-changes : (index value : ℕ) (w : World) → WriteChanges w (perform (write index value) w .world)
 unfolding perform
-write-changes index value w =
-    let k = marks-kept (w .device) (w .lent .ring) index value in
-    record { sizes = sizes-kept (w .device) (w .lent .ring) index value; defined = k .0; fence = k .1; lent = refl }
+write-changes index value w = record {
+  sizes = sizes-kept (w .device) (w .lent .ring) index value;
+  marks = marks-kept (w .device) (w .lent .ring) index value;
+  lent = refl;
+  output = refl;
+}
 
 -- not below is at least
 not-below : (i n : ℕ) → (i < n → ⊥) → n ≤ i
-not-below i n h = by-bool (ltb i n) (λ t. absurd (h (ltb-true i n t))) (λ f. ltb-false i n f)
+not-below i n h = cases (ltb i n) (λ t. absurd (h (ltb-true i n t))) (λ f. ltb-false i n f)
 
 -- the world that a run's outcome leaves
 abbrev ranWorld : World → RunOutcome → World
-ranWorld w o = record {
-  device = o .device;
-  lent = record { ring = o .ring; framebuffer = w .lent .framebuffer; screen = o .screen; cursor = o .cursor; output = w .lent .output };
-}
+ranWorld w o = record { device = o .device; lent = o .lent; output = w .output }
 
 module _ (w : World) where
   abbrev d : Device
   d = w .device
 
-  abbrev m : Memories
+  abbrev m : Lent
   m = w .lent
 
-  refused-run-changes : (a : ℕ) → RunChanges w (ranWorld w (refusedRun d (m .ring) (m .framebuffer) (m .screen) (m .cursor) a))
+  refused-run-changes : (a : ℕ) → RunChanges w (ranWorld w (refusedRun d m a))
   refused-run-changes a = record {
     sizes = refl;
     registers = refl;
@@ -166,12 +155,12 @@ module _ (w : World) where
     output = refl;
   }
 
-  ran-changes : (budget : ℕ) (g : Ring) → Open d (m .ring) (m .framebuffer) (m .screen) (m .cursor) g
-      → RunChanges w (ranWorld w (ran d (ranIn d (m .ring) (m .framebuffer) (m .screen) (m .cursor) budget g)))
+  ran-changes : (budget : ℕ) (g : Ring) → Open d m g
+      → RunChanges w (ranWorld w (ran d m (ranIn d m budget g)))
   ran-changes budget g o =
-      let s = left-stays d (m .ring) (m .framebuffer) (m .screen) (m .cursor) g o budget in
-      let before = open-sound d (m .ring) (m .framebuffer) (m .screen) (m .cursor) g o in
-      let after = left-sound d (m .ring) (m .framebuffer) (m .screen) (m .cursor) g o budget in
+      let s = left-stays d m g o budget in
+      let before = open-sound d m g o in
+      let after = left-sound d m g o budget in
       record {
         sizes = refl;
         registers = refl;
@@ -186,7 +175,7 @@ module _ (w : World) where
   run-changes : (budget : ℕ) → RunChanges w (perform (run budget) w .world)
   unfolding perform
   run-changes budget =
-      by-run d (m .ring) (m .framebuffer) (m .screen) (m .cursor) (λ (o : RunOutcome). RunChanges w (ranWorld w o)) budget
+      by-run d m (λ (o : RunOutcome). RunChanges w (ranWorld w o)) budget
       (λ a r. refused-run-changes a)
       (ran-changes budget)
 
@@ -195,40 +184,38 @@ module _ (w : World) where
   append-changes word = record {
     ring = record { same-length = length-append-to (m .ring) word; elsewhere = λ i h. append-elsewhere (m .ring) word i (λ e. h (inl e)) (λ e. h (inr e)) };
     device = refl;
-    framebuffer = refl;
-    screen = refl;
-    cursor = refl;
+    others = refl;
     output = refl;
   }
 
-  composed-changes : (over : Over) → made d ≡ true → SameBut (InMode w) (m .output) (composed (widthOf d) (heightOf d) over (m .screen) (m .cursor) (m .output))
+  composed-changes : (over : Over) → made d ≡ true → SameBut (InMode w) (w .output) (composed (widthOf d) (heightOf d) over (m .screen) (m .cursor) (w .output))
   composed-changes over y =
       let width = widthOf d in
       let height = heightOf d in
-      let l = length-composed width height (m .screen) (m .cursor) (m .output) over in
+      let l = length-composed width height (m .screen) (m .cursor) (w .output) over in
       record {
         same-length = l;
         elsewhere = λ i h.
             let far = not-below i (width * height) h in
-            by-bool (ltb i (length (m .output)))
-            (λ t. beyond-stays width height (m .screen) (m .cursor) (m .output) over i (ltb-true i (length (m .output)) t) (beyond-rows width height i (well-formed d y .width-low) far))
+            cases (ltb i (length (w .output)))
+            (λ t. beyond-stays width height (m .screen) (m .cursor) (w .output) over i (ltb-true i (length (w .output)) t) (beyond-rows width height i (well-formed d y .width-low) far))
             (λ f.
-            let k : length (m .output) ≤ i = ltb-false i (length (m .output)) f in
-            List·getD-eq-default (composed width height over (m .screen) (m .cursor) (m .output)) 0 (rw l k) ∙ sym (List·getD-eq-default (m .output) 0 k));
+            let k : length (w .output) ≤ i = ltb-false i (length (w .output)) f in
+            List·getD-eq-default (composed width height over (m .screen) (m .cursor) (w .output)) 0 (rw l k) ∙ sym (List·getD-eq-default (w .output) 0 k));
       }
 
-  output-changes : SameBut (InMode w) (m .output) (pictureOf d (m .screen) (m .cursor) (m .output) .output)
+  output-changes : SameBut (InMode w) (w .output) (pictureOf d (m .screen) (m .cursor) (w .output) .output)
   unfolding pictureOf
   output-changes =
-      by-bool (made d)
-      (λ y. by-bool (lengthsGood (pixelsOf d) (length (m .screen)) (length (m .cursor)) (length (m .output)))
-      (λ l. by-bool (leb (widthOf d * heightOf d) (pixelsOf d)) (λ t. rw (y, l, t) (composed-changes (cursorOver d (d .defined)) y)) (λ f. rw (y, l, f) (all-same (m .output))))
-      (λ l. rw (y, l) (all-same (m .output))))
-      (λ f. rw f (all-same (m .output)))
+      cases (made d)
+      (λ y. cases (lengthsGood (pixelsOf d) (length (m .screen)) (length (m .cursor)) (length (w .output)))
+      (λ l. cases (modeFits d) (λ t. rw (y, l, t) (composed-changes (cursorOver d (definedOf d)) y)) (λ f. rw (y, l, f) (all-same (w .output))))
+      (λ l. rw (y, l) (all-same (w .output))))
+      (λ f. rw f (all-same (w .output)))
 
   picture-changes : PictureChanges w (perform picture w .world)
   unfolding perform
-  picture-changes = record { output = output-changes; device = refl; ring = refl; framebuffer = refl; screen = refl; cursor = refl }
+  picture-changes = record { output = output-changes; device = refl; lent = refl }
 
 -- ---- demand 1
 
@@ -243,11 +230,11 @@ call-answers picture w = picture-answers w
 call-answers offscreen w = refl
 call-answers fence w = refl
 call-answers (passed number) w = refl
-call-answers (lend memories) w = refl
+call-answers (lend l output) w = refl
 
 call-changes : (c : Call) (w : World) → OnlyNamed c w (perform c w .world)
 unfolding perform
-call-changes (make memory pixels) w = refl
+call-changes (make memory pixels) w = (refl, refl)
 call-changes (write index value) w = write-changes index value w
 call-changes (read index) w = refl
 call-changes (run budget) w = run-changes w budget
@@ -256,7 +243,7 @@ call-changes picture w = picture-changes w
 call-changes offscreen w = refl
 call-changes fence w = refl
 call-changes (passed number) w = refl
-call-changes (lend memories) w = (refl, refl)
+call-changes (lend l output) w = (refl, refl, refl)
 
 one-zero : (v i : ℕ) → v ≡ 0 → getD (v ∷ []) i 0 ≡ 0
 one-zero v zero e = e
@@ -270,7 +257,7 @@ read-silent d Absent h = refl
 
 read-value : (d : Device) (index : ℕ) → 20 ≤ readOf d index .answer → readOf d index .value ≡ 0
 unfolding readOf
-read-value d index = by-bool (made d) (λ t. rw t (read-silent d (registerOf index))) (λ f. rw f (λ h. refl))
+read-value d index = cases (made d) (λ t. rw t (read-silent d (registerOf index))) (λ f. rw f (λ h. refl))
 
 call-silent : (c : Call) (w : World) → 20 ≤ perform c w .answer → (i : ℕ) → getD (perform c w .values) i 0 ≡ 0
 unfolding perform
@@ -279,14 +266,14 @@ call-silent (write index value) w h i = refl
 call-silent (read index) w h i = one-zero (readOf (w .device) index .value) i (read-value (w .device) index h)
 call-silent (run budget) w h i =
     let m = w .lent in
-    let q = refused-run (w .device) (m .ring) (m .framebuffer) (m .screen) (m .cursor) budget h in
-    one-zero (runOf (w .device) (m .ring) (m .framebuffer) (m .screen) (m .cursor) budget .count) i (ap (λ (o : RunOutcome). o .count) q)
+    let q = refused-run (w .device) m budget h in
+    one-zero (runOf (w .device) m budget .count) i (ap (λ (o : RunOutcome). o .count) q)
 call-silent (append word) w h i = refl
 call-silent picture w h i = refl
 call-silent offscreen w h i = absurd (omega arith)
 call-silent fence w h i = absurd (omega arith)
 call-silent (passed number) w h i = absurd (omega arith)
-call-silent (lend memories) w h i = refl
+call-silent (lend l output) w h i = refl
 
 -- every call, of every device, made or not, with every lent memory
 pub safe : (c : Call) (w : World) → Safe c w
@@ -307,9 +294,9 @@ unfolding perform
 run-bounded budget w =
     let d = w .device in
     let m = w .lent in
-    by-run d (m .ring) (m .framebuffer) (m .screen) (m .cursor) (λ (o : RunOutcome). o .count ≤ budget) budget
+    by-run d m (λ (o : RunOutcome). o .count ≤ budget) budget
     (λ a r. omega arith)
-    (λ g o. run-count (scene (widthOf d) (heightOf d) (m .framebuffer)) g budget (m .ring) (machineOf d (m .screen) (m .cursor)))
+    (λ g o. run-count (scene (widthOf d) (heightOf d) (m .framebuffer)) g budget (m .ring) (machineOf d m))
 
 -- "The run changes no other ring word, and none if it consumed nothing."
 pub run-untouched : (budget : ℕ) (w : World) → getD (perform (run budget) w .values) 0 0 ≡ 0 → perform (run budget) w .world .lent .ring ≡ w .lent .ring
@@ -317,6 +304,6 @@ unfolding perform
 run-untouched budget w =
     let d = w .device in
     let m = w .lent in
-    by-run d (m .ring) (m .framebuffer) (m .screen) (m .cursor) (λ (o : RunOutcome). o .count ≡ 0 → o .ring ≡ m .ring) budget
+    by-run d m (λ (o : RunOutcome). o .count ≡ 0 → o .lent .ring ≡ m .ring) budget
     (λ a r h. refl)
-    (λ g o. left-stays d (m .ring) (m .framebuffer) (m .screen) (m .cursor) g o budget .untouched)
+    (λ g o. left-stays d m g o budget .untouched)

@@ -10,10 +10,11 @@ use lib.Dec.{eqb}
 use lib.ListN.{length, getD, set, drop, length-set}
 use lib.Seq.{getD-set-same, getD-set-other}
 use borrow.Author.Tests.{eqb-true}
+use borrow.Table.Steps.{cases}
 use Rattle.ring.specs.Acceptance.{minOf, maxOf, nextOf, stopOf, usable}
 use Rattle.ring.specs.Waiting.{after, ahead, between, waiting}
 use Rattle.ring.proofs.Laws.{usable-when, when-usable}
-use Rattle.ring.proofs.WaitingLaws.{by-test, InRing, after-in, ahead-in, ahead-zero, ahead-after, between-carried, words-left-written}
+use Rattle.ring.proofs.WaitingLaws.{InRing, after-in, ahead-in, ahead-zero, ahead-after, between-carried, words-left-written}
 use Rattle.replay.specs.Demand.{wordsOn}
 
 -- ---- words on
@@ -145,6 +146,6 @@ module _ (lo hi : ℕ) (ring : List ℕ) (h : Holds lo hi ring) (k : ℕ) (part 
 pub passed-by : (lo hi : ℕ) (ring : List ℕ) (count k : ℕ) → Holds lo hi ring → k ≤ between lo hi (stopOf ring / 4) (nextOf ring / 4) → (count ≡ 0 → k ≡ 0)
     → Passed lo hi ring k (cond (eqb count 0) ring (set ring 3 (ahead lo hi (stopOf ring / 4) k * 4)))
 passed-by lo hi ring count k h part nothing =
-    by-test (eqb count 0)
+    cases (eqb count 0)
     (λ e. rw (e, nothing (eqb-true _ _ e)) (passed-none lo hi ring h))
     (λ e. rw e (passed-some lo hi ring h k part))

@@ -2,7 +2,6 @@
 -- Assumes nothing.
 use mathlib.Core.Path.{_≡_}
 use mathlib.Core.Bool.{Bool, true, false, _&&_, and-assoc}
-use lib.ListN.{length}
 use Rattle.device.specs.Device.{conditionOf}
 use Rattle.device_run.specs.Run.{ready}
 use Rattle.replay.specs.Calls.{World}
@@ -10,7 +9,7 @@ use Rattle.replay.specs.Demand.{ringAtStart, isStart}
 
 module _ (w : World) where
   abbrev ready-now : Bool
-  ready-now = ready (w .device) (length (w .lent .ring)) (length (w .lent .framebuffer)) (length (w .lent .screen)) (length (w .lent .cursor))
+  ready-now = ready (w .device) (w .lent)
 
   parts : ready-now && ringAtStart (w .lent .ring) (conditionOf (w .device)) ≡ isStart w
   unfolding ready isStart

@@ -1,57 +1,53 @@
 -- The start of demand 3: it is reached, from any sizes, mode and empty ring; which calls keep it; and document 01's own words for it give it.
 -- Assumes nothing.
 use mathlib.Core.Path.{_≡_, refl, sym, ap, _∙_}
-use mathlib.Core.Bool.{Bool, true, false, cond, _&&_}
+use mathlib.Core.Bool.{Bool, true, false, _&&_, true≢false}
 use mathlib.Core.List.{List, [], _∷_, map}
 use mathlib.Core.Logic.{_⊎_, ⊎-elim}
 use Prim.Native.Nat.{ℕ, _*_, _/_, _≤_}
 use native.Mathlib.Omega.{arith}
-use lib.Dec.{eqb, leb}
+use lib.Dec.{eqb}
 use lib.ListN.{length}
-use borrow.Author.Tests.{eqb-true, eqb-false, eq-eqb, le-leb}
-use Rattle.geometry.proofs.Tests.{by-bool, both}
-use Rattle.ring.specs.declared.Ring.{Ring}
+use borrow.Author.Tests.{eqb-true, eqb-false, eq-eqb, ne-eqb, le-leb}
+use borrow.Table.Steps.{cases}
+use Rattle.geometry.proofs.Tests.{both}
 use Rattle.ring.specs.Acceptance.{minOf, maxOf, nextOf, stopOf, usable}
 use Rattle.ring.specs.Append.{canAppend, appendOf}
-use Rattle.ring.proofs.Laws.{accepted-when}
 use Rattle.ring.proofs.AppendLaws.{append-refused}
-use Rattle.register.specs.declared.Register.{Register}
-use Rattle.register.specs.declared.Register.the-variants.{Writes, Reads, Absent}
+use Rattle.register.specs.declared.Register.the-variants.{Writes}
 use Rattle.register.specs.declared.Writable.{Writable}
-use Rattle.register.specs.declared.Writable.the-variants.{Id, Enable, Width, Height, ConfigDone, Sync, GuestId, CursorId, CursorX, CursorY, CursorOn}
+use Rattle.register.specs.declared.Writable.the-variants.{Enable, Width, Height, ConfigDone}
 use Rattle.register.specs.Numbers.{Numbered, numbers, among, registerOf}
+use Rattle.register.proofs.ByNumber.{numberOf}
+use Rattle.effect.specs.declared.Marks.{Marks}
 use Rattle.device.specs.declared.Device.{Device}
-use Rattle.device.specs.declared.Registers.{Registers}
-use Rattle.device.specs.declared.Plane.{Plane}
+use Rattle.device.specs.declared.Sizes.{Sizes}
 use Rattle.device.specs.declared.Condition.{Condition}
 use Rattle.device.specs.declared.Condition.the-variants.{Idle, Running, Faulted}
-use Rattle.device.specs.Device.{memoryOf, pixelsOf, widthOf, heightOf, enabledOf, configuredOf, conditionOf, definedOf, sizesGood, fresh, conditionGood, made, withRegisters, withPlane, withBusy, withCondition}
+use Rattle.device.specs.Device.{memoryOf, widthOf, heightOf, enabledOf, configuredOf, conditionOf, definedOf, maxWidth, maxHeight, sizesGood, fresh, conditionGood, modeFits, made}
 use Rattle.device.specs.Making.{madeOf}
 use Rattle.register_write.specs.Answers as A
-use Rattle.register_write.specs.Registers.{taken, isId, setMode, setState, idWritten, enableWritten, widthWritten, heightWritten, configured, acceptedWritten, configDoneWritten, running, synced, cursorOnWritten, writableWritten, writtenBy, written}
+use Rattle.register_write.specs.Registers.{taken, inRange, effectOf, ringAsked, remembering, written}
+use Rattle.device_run.specs.Run as R
 use Rattle.device_run.specs.Run.{RunOutcome, lentGood}
 use Rattle.device.proofs.Laws.{well-formed}
 use Rattle.device.proofs.Kept.{fresh-made}
-use Rattle.register_write.proofs.Kept.{written-made}
-use Rattle.register_read.proofs.Readings.{numberOf}
+use Rattle.register_write.proofs.Effects.{is, only-own, width-stored, height-stored, enable-sets}
+use Rattle.register_write.proofs.Kept.{remembered, effect-taken, ring-taken, written-made, part-kept, sizes-kept, marks-kept}
 use Rattle.register_write.proofs.Refusals.{refused-changes-nothing, unmade-write, wrong-length, ring-refused, only}
 use Rattle.adapter.proofs.Refusals.{refused-picture}
 use Rattle.replay.proofs.KeptByRun.{refused-run, run-made}
-use Rattle.replay.specs.Calls.{Memories, World, Call, make, write, read, run, append, picture, offscreen, fence, passed, lend, Outcome, withOutput, perform, History, performAll}
-use Rattle.replay.specs.Calls as Calls
+use Rattle.replay.specs.Calls.{World, Call, make, write, read, run, append, picture, offscreen, fence, passed, lend, Outcome, withDevice, perform, History, performAll}
 use Rattle.replay.specs.Demand.{ringAtStart, isStart}
 
 -- ---- what a start is, test by test
 
-abbrev pub lentRight : Device → Memories → Bool
-lentRight d m = lentGood d (length (m .ring)) (length (m .framebuffer)) (length (m .screen)) (length (m .cursor))
-
-abbrev pub modeFits : Device → Bool
-modeFits d = leb (widthOf d * heightOf d) (pixelsOf d)
+abbrev sizesOf : Device → Sizes
+sizesOf d = d .sizes
 
 pub record Start (w : World) : Type 0 where
   pub is-made : made (w .device) ≡ true
-  pub lengths : lentRight (w .device) (w .lent) ≡ true
+  pub lengths : lentGood (w .device) (w .lent) ≡ true
   pub is-configured : configuredOf (w .device) ≡ true
   pub is-enabled : enabledOf (w .device) ≡ true
   pub mode : modeFits (w .device) ≡ true
@@ -61,7 +57,7 @@ pub start-says : (w : World) → isStart w ≡ true → Start w
 unfolding isStart
 start-says w e =
     let a = both (made (w .device)) _ e in
-    let b = both (lentRight (w .device) (w .lent)) _ (a .1) in
+    let b = both (lentGood (w .device) (w .lent)) _ (a .1) in
     let c = both (configuredOf (w .device)) _ (b .1) in
     let d = both (enabledOf (w .device)) _ (c .1) in
     let f = both (modeFits (w .device)) _ (d .1) in
@@ -74,8 +70,8 @@ says-start w s = rw (s .is-made, s .lengths, s .is-configured, s .is-enabled, s 
 -- the ring words of a start are usable, and NEXT_CMD = STOP
 pub ring-empty : (ring : List ℕ) (c : Condition) → ringAtStart ring c ≡ true → (usable ring ≡ true) × (nextOf ring ≡ stopOf ring)
 unfolding ringAtStart
-ring-empty ring Idle e = let z : _≡_ {A = ℕ} 0 1 = cc in absurd (omega arith)
-ring-empty ring (Faulted c) e = let z : _≡_ {A = ℕ} 0 1 = cc in absurd (omega arith)
+ring-empty ring Idle e = absurd (true≢false cc)
+ring-empty ring (Faulted c) e = absurd (true≢false cc)
 ring-empty ring (Running g) e =
     let a = both (usable ring) _ e in
     let b = both (eqb (minOf ring / 4) (g .min)) _ (a .1) in
@@ -87,44 +83,27 @@ ring-empty ring (Running g) e =
 
 -- taken, with this device afterwards and the memories as they were
 abbrev pub took : World → Device → Outcome
-took w d = record { answer = 0; values = []; world = record { device = d; lent = w .lent } }
+took w d = record { answer = 0; values = []; world = withDevice w d }
 
 make-taken : (w : World) (memory pixels : ℕ) → sizesGood memory pixels ≡ true → perform (make memory pixels) w ≡ took w (fresh memory pixels)
 unfolding perform madeOf
 make-taken w memory pixels e = rw e
 
-abbrev withWidth : Device → ℕ → Device
-withWidth d v = withRegisters d (setMode (d .registers) v (heightOf d))
-
-abbrev withHeight : Device → ℕ → Device
-withHeight d v = withRegisters d (setMode (d .registers) (widthOf d) v)
-
-abbrev withEnable : Device → Device
-withEnable d = withRegisters d (setState (d .registers) (d .registers .id) true (d .registers .config))
-
--- what acceptance remembers of ring words
-abbrev pub remembered : List ℕ → Ring
-remembered ring = record { min = minOf ring / 4; max = maxOf ring / 4; stop = stopOf ring / 4 }
-
 abbrev pub withRing : Device → List ℕ → Device
-withRing d ring = withCondition (configured d true) (Running (remembered ring))
+withRing d ring = remembering d (remembered ring)
 
 module _ (d : Device) (ring : List ℕ) (m : made d ≡ true) where
-  width-taken : (v : ℕ) → 1 ≤ v → v ≤ 2560 → written d ring 2 v ≡ taken (withWidth d v)
-  unfolding written writtenBy writableWritten registerOf numbers widthWritten
-  width-taken v a b = rw (m, le-leb 1 v a, le-leb v 2560 b)
+  width-taken : (v : ℕ) → 1 ≤ v → v ≤ maxWidth → written d ring 2 v ≡ taken (effectOf d v Width)
+  unfolding inRange ringAsked
+  width-taken v a b = effect-taken d ring m Width v (rw (le-leb 1 v a) (le-leb v maxWidth b)) refl
 
-  height-taken : (v : ℕ) → 1 ≤ v → v ≤ 1600 → written d ring 3 v ≡ taken (withHeight d v)
-  unfolding written writtenBy writableWritten registerOf numbers heightWritten
-  height-taken v a b = rw (m, le-leb 1 v a, le-leb v 1600 b)
+  height-taken : (v : ℕ) → 1 ≤ v → v ≤ maxHeight → written d ring 3 v ≡ taken (effectOf d v Height)
+  unfolding inRange ringAsked
+  height-taken v a b = effect-taken d ring m Height v (rw (le-leb 1 v a) (le-leb v maxHeight b)) refl
 
-  enable-taken : written d ring 1 1 ≡ taken (withEnable d)
-  unfolding written writtenBy writableWritten registerOf numbers enableWritten
-  enable-taken = rw m
-
-  ring-taken : length ring ≡ memoryOf d / 4 → usable ring ≡ true → written d ring 20 1 ≡ taken (withRing d ring)
-  unfolding written writtenBy writableWritten registerOf numbers configDoneWritten acceptedWritten
-  ring-taken n u = rw (m, eq-eqb _ _ n, accepted-when ring u)
+  enable-taken : written d ring 1 1 ≡ taken (effectOf d 1 Enable)
+  unfolding inRange ringAsked
+  enable-taken = effect-taken d ring m Enable 1 refl refl
 
 write-taken : (w : World) (index value : ℕ) (d : Device) → written (w .device) (w .lent .ring) index value ≡ taken d → perform (write index value) w ≡ took w d
 unfolding perform
@@ -142,7 +121,7 @@ remembered-start ring u n =
 
 -- "CONFIG_DONE 1 .. Accepted": of a made and enabled device whose mode fits, with every lent length right, at ring words that are usable and empty, it
 -- is taken and gives a start.
-pub accepted-starts : (w : World) → made (w .device) ≡ true → lentRight (w .device) (w .lent) ≡ true → enabledOf (w .device) ≡ true → modeFits (w .device) ≡ true
+pub accepted-starts : (w : World) → made (w .device) ≡ true → lentGood (w .device) (w .lent) ≡ true → enabledOf (w .device) ≡ true → modeFits (w .device) ≡ true
     → usable (w .lent .ring) ≡ true → nextOf (w .lent .ring) ≡ stopOf (w .lent .ring)
     → (perform (write 20 1) w ≡ took w (withRing (w .device) (w .lent .ring))) × (isStart (perform (write 20 1) w .world) ≡ true)
 unfolding lentGood
@@ -172,20 +151,21 @@ answers h = map (λ (o : Outcome). o .answer) (h .outcomes)
 -- From any world whose lent memories have the right lengths for M and P, at ring words that are usable and empty: for every M and P that a device can be
 -- made for and every mode that a device can have and that fits P.
 pub start-reached : (w : World) (memory pixels width height : ℕ) → sizesGood memory pixels ≡ true
-    → 1 ≤ width → width ≤ 2560 → 1 ≤ height → height ≤ 1600 → width * height ≤ pixels
+    → 1 ≤ width → width ≤ maxWidth → 1 ≤ height → height ≤ maxHeight → width * height ≤ pixels
     → length (w .lent .ring) ≡ memory / 4 → length (w .lent .framebuffer) ≡ pixels → length (w .lent .screen) ≡ pixels → length (w .lent .cursor) ≡ 4096
     → usable (w .lent .ring) ≡ true → nextOf (w .lent .ring) ≡ stopOf (w .lent .ring)
     → (answers (performAll (starting memory pixels width height) w) ≡ 0 ∷ 0 ∷ 0 ∷ 0 ∷ 0 ∷ [])
     × (isStart (performAll (starting memory pixels width height) w .world) ≡ true)
     × (performAll (starting memory pixels width height) w .world .lent ≡ w .lent)
+    × (performAll (starting memory pixels width height) w .world .output ≡ w .output)
 unfolding performAll lentGood
 start-reached w memory pixels width height good a b c d fits r f s k u n =
     let ring = w .lent .ring in
-    let at : Device → World = λ e. record { device = e; lent = w .lent } in
+    let at : Device → World = withDevice w in
     let d₁ = fresh memory pixels in
-    let d₂ = withWidth d₁ width in
-    let d₃ = withHeight d₂ height in
-    let d₄ = withEnable d₃ in
+    let d₂ = effectOf d₁ width Width in
+    let d₃ = effectOf d₂ height Height in
+    let d₄ = effectOf d₃ 1 Enable in
     let m₁ = fresh-made memory pixels good in
     let q₂ = width-taken d₁ ring m₁ width a b in
     let m₂ = made-after d₁ d₂ ring 2 width m₁ q₂ in
@@ -193,26 +173,33 @@ start-reached w memory pixels width height good a b c d fits r f s k u n =
     let m₃ = made-after d₂ d₃ ring 3 height m₂ q₃ in
     let q₄ = enable-taken d₃ ring m₃ in
     let m₄ = made-after d₃ d₄ ring 1 1 m₃ q₄ in
-    let l : lentRight d₄ (w .lent) ≡ true = rw (eq-eqb _ _ r, eq-eqb _ _ f, eq-eqb _ _ s) (eq-eqb _ _ k) in
-    let z = accepted-starts (at d₄) m₄ l refl (le-leb (width * height) pixels fits) u n in
+    let o₂ = only-own d₁ width Width in
+    let o₃ = only-own d₂ height Height in
+    let o₄ = only-own d₃ 1 Enable in
+    let sizes : d₄ .sizes ≡ d₁ .sizes = ap sizesOf o₄ ∙ ap sizesOf o₃ ∙ ap sizesOf o₂ in
+    let wide : widthOf d₄ ≡ width = ap widthOf o₄ ∙ ap widthOf o₃ ∙ width-stored d₁ width in
+    let high : heightOf d₄ ≡ height = ap heightOf o₄ ∙ height-stored d₂ height in
+    let l : lentGood d₄ (w .lent) ≡ true = rw (sizes, eq-eqb _ _ r, eq-eqb _ _ f, eq-eqb _ _ s) (eq-eqb _ _ k) in
+    let fit : modeFits d₄ ≡ true = rw (sizes, wide, high) (le-leb (width * height) pixels fits) in
+    let z = accepted-starts (at d₄) m₄ l (enable-sets d₃) fit u n in
     let first = make-taken w memory pixels good in
     let second = write-taken (at d₁) 2 width d₂ q₂ in
     let third = write-taken (at d₂) 3 height d₃ q₃ in
     let fourth = write-taken (at d₃) 1 1 d₄ q₄ in
-    rw (first, second, third, fourth) (rw (z .0), z .1, rw (z .0))
+    rw (first, second, third, fourth) (rw (z .0), z .1, rw (z .0), rw (z .0))
 
 -- ---- the start is kept
 
 -- the table's numbers are those of its registers
-abbrev numbered : List Numbered → Bool
-numbered [] = true
-numbered (r ∷ rs) = eqb (numberOf (r .register)) (r .number) && numbered rs
+abbrev right : List Numbered → Bool
+right [] = true
+right (r ∷ rs) = eqb (numberOf (r .register)) (r .number) && right rs
 
-among-number : (rs : List Numbered) → numbered rs ≡ true → (index : ℕ) (w : Writable) → among index rs ≡ Writes w → index ≡ numberOf (Writes w)
-among-number [] t index w e = let z : _≡_ {A = ℕ} 0 1 = cc in absurd (omega arith)
+among-number : (rs : List Numbered) → right rs ≡ true → (index : ℕ) (w : Writable) → among index rs ≡ Writes w → index ≡ numberOf (Writes w)
+among-number [] t index w e = absurd (true≢false cc)
 among-number (r ∷ rs) t index w e =
-    let b = both (eqb (numberOf (r .register)) (r .number)) (numbered rs) t in
-    by-bool (eqb index (r .number))
+    let b = both (eqb (numberOf (r .register)) (r .number)) (right rs) t in
+    cases (eqb index (r .number))
     (λ y.
     let q : r .register ≡ Writes w = rw y at e in
     eqb-true index (r .number) y ∙ sym (eqb-true (numberOf (r .register)) (r .number) (b .0)) ∙ ap numberOf q)
@@ -233,92 +220,31 @@ pub record Alike (d e : Device) : Type 0 where
   pub condition : conditionOf e ≡ conditionOf d
   pub defined : definedOf e ≡ definedOf d
 
--- other registers, plane and BUSY
-alike : (d : Device) (g : Registers) (p : Plane) (busy : Bool) → g .width ≡ widthOf d → g .height ≡ heightOf d → g .enable ≡ enabledOf d → g .config ≡ configuredOf d
-    → Alike d (withBusy (withPlane (withRegisters d g) p) busy)
-alike d g p busy a b c e = record { sizes = refl; width = a; height = b; enable = c; config = e; condition = refl; defined = refl }
-
-same : (d : Device) → Alike d d
-same d = alike d (d .registers) (d .plane) (d .busy) refl refl refl refl
-
-alike-start : (d e : Device) (m : Memories) → Alike d e → isStart (record { device = e; lent = m }) ≡ isStart (record { device = d; lent = m })
+alike-start : (w : World) (e : Device) → Alike (w .device) e → isStart (withDevice w e) ≡ isStart w
 unfolding isStart made lentGood
-alike-start d e m s = rw (s .sizes, s .width, s .height, s .enable, s .config, s .condition, s .defined)
+alike-start w e s = rw (s .sizes, s .width, s .height, s .enable, s .config, s .condition, s .defined)
 
-by-cond : {A : Type 0} (P : A → Type 0) (b : Bool) {x y : A} → (b ≡ true → P x) → (b ≡ false → P y) → P (cond b x y)
-by-cond P true f g = f refl
-by-cond P false f g = g refl
-
--- registers that are neither ENABLE, WIDTH, HEIGHT nor CONFIG_DONE
-abbrev Other : Writable → Type 0
-Other Id = Unit {0}
-Other Enable = ⊥
-Other Width = ⊥
-Other Height = ⊥
-Other ConfigDone = ⊥
-Other Sync = Unit {0}
-Other GuestId = Unit {0}
-Other CursorId = Unit {0}
-Other CursorX = Unit {0}
-Other CursorY = Unit {0}
-Other CursorOn = Unit {0}
-
-module _ (d : Device) (ring : List ℕ) (v : ℕ) where
-  P : Device → Type 0
-  P = Alike d
-
-  alike-writable : (w : Writable) → Other w → Alike d (writableWritten d ring v w .device)
-  unfolding writableWritten idWritten synced cursorOnWritten P
-  alike-writable Id o = by-cond P (isId v) (λ t. alike d _ _ _ refl refl refl refl) (λ f. same d)
-  alike-writable Enable o = absurd o
-  alike-writable Width o = absurd o
-  alike-writable Height o = absurd o
-  alike-writable ConfigDone o = absurd o
-  alike-writable Sync o = by-cond P (running (d .condition)) (λ r. by-cond P (d .registers .enable) (λ t. alike d _ _ _ refl refl refl refl) (λ f. same d)) (λ f. same d)
-  alike-writable GuestId o = alike d _ _ _ refl refl refl refl
-  alike-writable CursorId o = alike d _ _ _ refl refl refl refl
-  alike-writable CursorX o = alike d _ _ _ refl refl refl refl
-  alike-writable CursorY o = alike d _ _ _ refl refl refl refl
-  alike-writable CursorOn o =
-      let Q : A.Outcome → Type 0 = λ z. Alike d (z .device) in
-      by-cond Q (leb v 3)
-      (λ t.
-      by-cond Q (eqb v 0) (λ z. alike d _ _ _ refl refl refl refl)
-      (λ nz. by-cond Q (eqb v 1) (λ z. alike d _ _ _ refl refl refl refl) (λ f. alike d _ _ _ refl refl refl refl)))
-      (λ f. same d)
-
-other : (index : ℕ) (w : Writable) → (index ≡ 1 → ⊥) → (index ≡ 2 → ⊥) → (index ≡ 3 → ⊥) → (index ≡ 20 → ⊥) → index ≡ numberOf (Writes w) → Other w
-other index Id a b c d e = tt
-other index Enable a b c d e = a e
-other index Width a b c d e = b e
-other index Height a b c d e = c e
-other index ConfigDone a b c d e = d e
-other index Sync a b c d e = tt
-other index GuestId a b c d e = tt
-other index CursorId a b c d e = tt
-other index CursorX a b c d e = tt
-other index CursorY a b c d e = tt
-other index CursorOn a b c d e = tt
-
-alike-by : (d : Device) (ring : List ℕ) (v : ℕ) (r : Register) → ((w : Writable) → r ≡ Writes w → Other w) → Alike d (writtenBy d ring v r .device)
-unfolding writtenBy
-alike-by d ring v (Writes w) o = alike-writable d ring v w (o w refl)
-alike-by d ring v (Reads r) o = same d
-alike-by d ring v Absent o = same d
+-- a register whose number is not that of r is not r
+not-one : (index : ℕ) (w r : Writable) → registerOf index ≡ Writes w → (index ≡ numberOf (Writes r) → ⊥) → is w r ≡ false
+not-one index w r q n = ne-eqb _ _ (λ e. n (writes-number index w q ∙ e))
 
 alike-written : (d : Device) (ring : List ℕ) (index v : ℕ) → (index ≡ 1 → ⊥) → (index ≡ 2 → ⊥) → (index ≡ 3 → ⊥) → (index ≡ 20 → ⊥) → Alike d (written d ring index v .device)
-unfolding written
-alike-written d ring index v a b c e =
-    by-cond (λ (o : A.Outcome). Alike d (o .device)) (made d)
-    (λ t. alike-by d ring v (registerOf index) (λ w q. other index w a b c e (writes-number index w q)))
-    (λ f. same d)
+alike-written d ring index v a b c e = record {
+  sizes = sizes-kept d ring index v;
+  width = part-kept widthOf d ring index v (λ w q x. rw (not-one index w Width q b));
+  height = part-kept heightOf d ring index v (λ w q x. rw (not-one index w Height q c));
+  enable = part-kept enabledOf d ring index v (λ w q x. rw (not-one index w Enable q a));
+  config = part-kept configuredOf d ring index v (λ w q x. rw (not-one index w ConfigDone q e));
+  condition = part-kept conditionOf d ring index v (λ w q x. rw (not-one index w ConfigDone q e));
+  defined = ap (λ (m : Marks). m .defined) (marks-kept d ring index v);
+}
 
 -- a write to any register but ENABLE, WIDTH, HEIGHT and CONFIG_DONE
 pub write-keeps : (w : World) (index value : ℕ) → (index ≡ 1 → ⊥) → (index ≡ 2 → ⊥) → (index ≡ 3 → ⊥) → (index ≡ 20 → ⊥)
     → isStart w ≡ true → isStart (perform (write index value) w .world) ≡ true
 unfolding perform
 write-keeps w index value a b c e s =
-    alike-start (w .device) (written (w .device) (w .lent .ring) index value .device) (w .lent) (alike-written (w .device) (w .lent .ring) index value a b c e) ∙ s
+    alike-start w (written (w .device) (w .lent .ring) index value .device) (alike-written (w .device) (w .lent .ring) index value a b c e) ∙ s
 
 -- CONFIG_DONE 1 again
 pub configured-again : (w : World) → isStart w ≡ true → isStart (perform (write 20 1) w .world) ≡ true
@@ -332,8 +258,19 @@ pub enabled-again : (w : World) → isStart w ≡ true → isStart (perform (wri
 enabled-again w s =
     let z = start-says w s in
     let d = w .device in
-    let q = write-taken w 1 1 (withEnable d) (enable-taken d (w .lent .ring) (z .is-made)) in
-    rw q (alike-start d (withEnable d) (w .lent) (alike d _ _ _ refl refl (sym (z .is-enabled)) refl) ∙ s)
+    let e = effectOf d 1 Enable in
+    let o = only-own d 1 Enable in
+    let q = write-taken w 1 1 e (enable-taken d (w .lent .ring) (z .is-made)) in
+    let alike : Alike d e = record {
+      sizes = ap sizesOf o;
+      width = ap widthOf o;
+      height = ap heightOf o;
+      enable = enable-sets d ∙ sym (z .is-enabled);
+      config = ap configuredOf o;
+      condition = ap conditionOf o;
+      defined = ap definedOf o;
+    } in
+    rw q (alike-start w e alike ∙ s)
 
 -- ---- "Answers 20 to 34 change nothing"
 
@@ -341,38 +278,35 @@ enabled-again w s =
 pub refused-stays : (c : Call) (w : World) → 20 ≤ perform c w .answer → perform c w .world ≡ w
 unfolding perform madeOf appendOf
 refused-stays (make memory pixels) w h =
-    by-bool (sizesGood memory pixels)
+    cases (sizesGood memory pixels)
     (λ t. let z : 20 ≤ 0 = rw t at h in absurd (omega arith))
     (λ f. rw f)
 refused-stays (write index value) w h =
-    ap {B = World} (λ (d : Device). record { device = d; lent = w .lent })
+    ap (withDevice w)
     (refused-changes-nothing (w .device) (w .lent .ring) index value (λ z. absurd (omega arith)))
 refused-stays (read index) w h = refl
 refused-stays (run budget) w h =
-    ap {B = World} (λ (o : RunOutcome). record {
-      device = o .device;
-      lent = record { ring = o .ring; framebuffer = w .lent .framebuffer; screen = o .screen; cursor = o .cursor; output = w .lent .output };
-    })
-    (refused-run (w .device) (w .lent .ring) (w .lent .framebuffer) (w .lent .screen) (w .lent .cursor) budget h)
+    ap {B = World} (λ (o : RunOutcome). record { device = o .device; lent = o .lent; output = w .output })
+    (refused-run (w .device) (w .lent) budget h)
 refused-stays (append word) w h =
-    by-bool (canAppend (w .lent .ring))
+    cases (canAppend (w .lent .ring))
     (λ t. let z : 20 ≤ 0 = rw t at h in absurd (omega arith))
     (λ f. let z : 20 ≤ 1 = rw f at h in absurd (omega arith))
 refused-stays picture w h =
-    ap {B = World} (λ (output : List ℕ). record { device = w .device; lent = withOutput (w .lent) output })
-    (refused-picture (w .device) (w .lent .screen) (w .lent .cursor) (w .lent .output) (λ z. absurd (omega arith)))
+    ap {B = World} (λ (output : List ℕ). record { device = w .device; lent = w .lent; output = output })
+    (refused-picture (w .device) (w .lent .screen) (w .lent .cursor) (w .output) (λ z. absurd (omega arith)))
 refused-stays offscreen w h = refl
 refused-stays fence w h = refl
 refused-stays (passed number) w h = refl
-refused-stays (lend m) w h = absurd (omega arith)
+refused-stays (lend l output) w h = absurd (omega arith)
 
 -- and so does an append whose word is not taken
 pub untaken-stays : (word : ℕ) (w : World) → perform (append word) w .answer ≡ 1 → perform (append word) w .world ≡ w
 unfolding perform appendOf
 untaken-stays word w h =
-    by-bool (canAppend (w .lent .ring))
+    cases (canAppend (w .lent .ring))
     (λ t. let z : 0 ≡ 1 = rw t at h in absurd (omega arith))
-    (λ f. ap {B = World} (λ (ring : List ℕ). record { device = w .device; lent = Calls.withRing (w .lent) ring }) (append-refused (w .lent .ring) word f))
+    (λ f. ap {B = World} (λ (ring : List ℕ). record { device = w .device; lent = R.withRing (w .lent) ring; output = w .output }) (append-refused (w .lent .ring) word f))
 
 -- ---- the calls that leave a start a start
 
@@ -405,16 +339,16 @@ start-kept w c accepted s = configured-again w s
 
 perform-made : (c : Call) (w : World) → made (w .device) ≡ true → made (perform c w .world .device) ≡ true
 unfolding perform madeOf
-perform-made (make memory pixels) w y = by-bool (sizesGood memory pixels) (λ t. rw t (fresh-made memory pixels t)) (λ f. rw f y)
+perform-made (make memory pixels) w y = cases (sizesGood memory pixels) (λ t. rw t (fresh-made memory pixels t)) (λ f. rw f y)
 perform-made (write index value) w y = written-made (w .device) (w .lent .ring) index value y
 perform-made (read index) w y = y
-perform-made (run budget) w y = run-made (w .device) (w .lent .ring) (w .lent .framebuffer) (w .lent .screen) (w .lent .cursor) budget y
+perform-made (run budget) w y = run-made (w .device) (w .lent) budget y
 perform-made (append word) w y = y
 perform-made picture w y = y
 perform-made offscreen w y = y
 perform-made fence w y = y
 perform-made (passed number) w y = y
-perform-made (lend memories) w y = y
+perform-made (lend l output) w y = y
 
 pub all-made : (cs : List Call) (w : World) → made (w .device) ≡ true → made (performAll cs w .world .device) ≡ true
 unfolding performAll
@@ -434,7 +368,7 @@ Leaves picture = Unit {0}
 Leaves offscreen = Unit {0}
 Leaves fence = Unit {0}
 Leaves (passed number) = Unit {0}
-Leaves (lend memories) = Unit {0}
+Leaves (lend l output) = Unit {0}
 
 -- ", refusals aside", each call on what the last one left
 abbrev pub NoRun : List Call → World → Type 0
@@ -442,39 +376,11 @@ NoRun [] w = Unit {0}
 NoRun (c ∷ cs) w = (Leaves c ⊎ (20 ≤ perform c w .answer)) × NoRun cs (perform c w .world)
 
 -- only CONFIG_DONE touches the remembered ring
-module _ (d : Device) (ring : List ℕ) (v : ℕ) where
-  Same : A.Outcome → Type 0
-  Same o = conditionOf (o .device) ≡ conditionOf d
-
-  condition-writable : (w : Writable) → (w ≡ ConfigDone → ⊥) → Same (writableWritten d ring v w)
-  unfolding Same writableWritten idWritten enableWritten widthWritten heightWritten synced cursorOnWritten
-  condition-writable Id o = by-cond (λ (e : Device). conditionOf e ≡ conditionOf d) (isId v) (λ t. refl) (λ f. refl)
-  condition-writable Enable o = by-cond Same (eqb v 0) (λ t. refl) (λ f. by-cond Same (eqb v 1) (λ t. refl) (λ f. refl))
-  condition-writable Width o = by-cond Same (leb 1 v && leb v 2560) (λ t. refl) (λ f. refl)
-  condition-writable Height o = by-cond Same (leb 1 v && leb v 1600) (λ t. refl) (λ f. refl)
-  condition-writable ConfigDone o = absurd (o refl)
-  condition-writable Sync o =
-      let P : Device → Type 0 = λ e. conditionOf e ≡ conditionOf d in
-      by-cond P (running (d .condition)) (λ r. by-cond P (d .registers .enable) (λ t. refl) (λ f. refl)) (λ f. refl)
-  condition-writable GuestId o = refl
-  condition-writable CursorId o = refl
-  condition-writable CursorX o = refl
-  condition-writable CursorY o = refl
-  condition-writable CursorOn o =
-      by-cond Same (leb v 3) (λ t. by-cond Same (eqb v 0) (λ z. refl) (λ nz. by-cond Same (eqb v 1) (λ z. refl) (λ f. refl))) (λ f. refl)
-
-  condition-by : (r : Register) → (r ≡ Writes ConfigDone → ⊥) → Same (writtenBy d ring v r)
-  unfolding Same writtenBy
-  condition-by (Writes w) o = condition-writable w (λ e. o (ap {B = Register} (λ (x : Writable). Writes x) e))
-  condition-by (Reads r) o = refl
-  condition-by Absent o = refl
-
-  condition-kept : (index : ℕ) → (index ≡ 20 → ⊥) → Same (written d ring index v)
-  unfolding Same written
-  condition-kept index h = by-cond Same (made d) (λ t. condition-by (registerOf index) (λ e. h (writes-number index ConfigDone e))) (λ f. refl)
+condition-kept : (d : Device) (ring : List ℕ) (v index : ℕ) → (index ≡ 20 → ⊥) → conditionOf (written d ring index v .device) ≡ conditionOf d
+condition-kept d ring v index h = part-kept conditionOf d ring index v (λ w q x. rw (not-one index w ConfigDone q h))
 
 leaves-condition : (c : Call) (w : World) → Leaves c → conditionOf (perform c w .world .device) ≡ conditionOf (w .device)
-unfolding perform Same
+unfolding perform
 leaves-condition (make memory pixels) w h = absurd h
 leaves-condition (write index value) w h = condition-kept (w .device) (w .lent .ring) value index h
 leaves-condition (read index) w h = refl
@@ -484,7 +390,7 @@ leaves-condition picture w h = refl
 leaves-condition offscreen w h = refl
 leaves-condition fence w h = refl
 leaves-condition (passed number) w h = refl
-leaves-condition (lend memories) w h = refl
+leaves-condition (lend l output) w h = refl
 
 no-run-condition : (cs : List Call) (w : World) → NoRun cs w → conditionOf (performAll cs w .world .device) ≡ conditionOf (w .device)
 unfolding performAll
@@ -506,7 +412,7 @@ module _ (w : World) (taken-it : perform (write 20 1) w .answer ≡ 0) where
   was-made : made (w .device) ≡ true
   unfolding perform
   was-made =
-      by-bool (made (w .device)) (λ m. m)
+      cases (made (w .device)) (λ m. m)
       (λ f. let z : 30 ≡ 0 = rw (unmade-write (w .device) (w .lent .ring) 20 1 f) at taken-it in absurd (omega arith))
 
   config-number : registerOf 20 ≡ Writes ConfigDone
@@ -516,7 +422,7 @@ module _ (w : World) (taken-it : perform (write 20 1) w .answer ≡ 0) where
   ring-long : length (w .lent .ring) ≡ memoryOf (w .device) / 4
   unfolding perform
   ring-long =
-      by-bool (eqb (length (w .lent .ring)) (memoryOf (w .device) / 4)) (λ t. eqb-true _ _ t)
+      cases (eqb (length (w .lent .ring)) (memoryOf (w .device) / 4)) (λ t. eqb-true _ _ t)
       (λ f.
       let a = only (w .device) (w .lent .ring) 20 1 was-made 20 (wrong-length config-number refl (eqb-false _ _ f)) in
       absurd (omega arith))
@@ -524,7 +430,7 @@ module _ (w : World) (taken-it : perform (write 20 1) w .answer ≡ 0) where
   ring-usable : usable (w .lent .ring) ≡ true
   unfolding perform
   ring-usable =
-      by-bool (usable (w .lent .ring)) (λ t. t)
+      cases (usable (w .lent .ring)) (λ t. t)
       (λ f. let a = only (w .device) (w .lent .ring) 20 1 was-made 33 (ring-refused config-number refl ring-long f) in absurd (omega arith))
 
 -- "Demand 3 starts from a made device, enabled and configured, whose mode fits. Its ring was last accepted with NEXT_CMD = STOP and since then nothing was
@@ -533,7 +439,7 @@ module _ (w : World) (taken-it : perform (write 20 1) w .answer ≡ 0) where
 pub start-whenever : (cs : List Call) (w z : World)
     → perform (write 20 1) w .answer ≡ 0 → nextOf (w .lent .ring) ≡ stopOf (w .lent .ring)
     → NoRun cs (perform (write 20 1) w .world) → performAll (write 20 1 ∷ cs) w .world ≡ z → z .lent .ring ≡ w .lent .ring
-    → enabledOf (z .device) ≡ true → modeFits (z .device) ≡ true → lentRight (z .device) (z .lent) ≡ true
+    → enabledOf (z .device) ≡ true → modeFits (z .device) ≡ true → lentGood (z .device) (z .lent) ≡ true
     → isStart z ≡ true
 unfolding performAll
 start-whenever cs w z t n q e same on fits long =

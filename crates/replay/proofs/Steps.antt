@@ -1,15 +1,16 @@
 -- A device with its memories shows a queue: an append and a run of the one are those of the other.
 -- Assumes nothing.
 use mathlib.Core.Path.{_≡_, refl, sym, ap, subst, _∙_}
-use mathlib.Core.Bool.{true, false}
+use mathlib.Core.Bool.{true, false, true≢false}
 use mathlib.Core.List.{List, [], _∷_, _++_}
 use mathlib.Core.Option.{Option, none, some}
 use Prim.Native.Nat.{ℕ, _+_, _-_, _*_, _/_, _%_, _≤_}
 use native.Mathlib.Omega.{arith}
 use native.Mathlib.Nat.{add-zero}
-use lib.Dec.{eqb, leb}
+use lib.Dec.{eqb}
 use lib.ListN.{length, drop, length-drop, length-append}
 use borrow.Author.Tests.{eqb-true, eqb-false, eq-eqb, le-leb, lt-ltb}
+use borrow.Table.Steps.{cases}
 use Rattle.geometry.proofs.Tests.{both}
 use Rattle.order.specs.declared.Cause.{Cause}
 use Rattle.order.specs.declared.End.the-variants.{Drained, Waiting, Fault}
@@ -23,20 +24,20 @@ use Rattle.ring.specs.declared.Ring.{Ring}
 use Rattle.ring.specs.Acceptance.{minOf, maxOf, nextOf, stopOf, usable}
 use Rattle.ring.specs.Append.{canAppend, appendTo, appendOf}
 use Rattle.ring.specs.Waiting.{ahead, between, words, waiting, carried, placed, nextGood}
-use Rattle.ring.proofs.Laws.{usable-when}
-use Rattle.ring.proofs.WaitingLaws.{by-test, length-waiting}
+use Rattle.ring.proofs.Laws.{usable-when, when-placed}
+use Rattle.ring.proofs.WaitingLaws.{length-waiting}
 use Rattle.ring.proofs.AppendLaws.{append-refused, length-append-to, append-keeps, append-waits, append-full}
 use Rattle.command.proofs.Laws.{command-laws}
-use Rattle.effect.specs.Effects.{Machine}
+use Rattle.effect.specs.Effects.{Scene, scene, Machine, done}
 use Rattle.run.specs.Run as R
-use Rattle.run.specs.Run.{Scene, scene, table, stamped, left, runWords, fitting, runIn}
+use Rattle.run.specs.Run.{knownOf, table, stamped, left, runWords, fitting, runIn}
 use Rattle.device.specs.declared.Device.{Device}
 use Rattle.device.specs.declared.Condition.{Condition}
 use Rattle.device.specs.declared.Condition.the-variants.{Running, Faulted}
-use Rattle.device.specs.Device.{memoryOf, pixelsOf, widthOf, heightOf, enabledOf, configuredOf, conditionOf, sizesGood, modeGood, ringGood, conditionGood, made}
-use Rattle.device_run.specs.Run.{RunOutcome, lentGood, conditionAfter, ran, runBy, runOf}
+use Rattle.device.specs.Device.{memoryOf, pixelsOf, widthOf, heightOf, enabledOf, configuredOf, conditionOf, sizesGood, modeGood, conditionGood, modeFits, made}
+use Rattle.device_run.specs.Run.{Lent, withRing, RunOutcome, lentGood, conditionAfter, ran, runBy, runOf}
 use Rattle.device.proofs.Laws.{well-formed}
-use Rattle.replay.specs.Calls.{World, withRing, Outcome, append, run, perform}
+use Rattle.replay.specs.Calls.{World, Outcome, append, run, perform}
 use Rattle.replay.specs.Demand.{ringAtStart, isStart, sceneOf, turnIn, wordsIn, machineIn, lineIn, standsIn, wordsOn, numbersOf}
 use Rattle.run.proofs.RunLaws.{turn-kept}
 use Rattle.replay.proofs.Runs.{Leaves, run-leaves}
@@ -52,15 +53,15 @@ run-in : (s : Scene) (g : Ring) (b : ℕ) (ring : List ℕ) (m : Machine) → fi
 unfolding runIn runWords
 run-in s g b ring m f n = rw (f, turn-kept s g (nextOf ring) n)
 
-run-passes : (d : Device) (ring framebuffer screen cursor : List ℕ) (b : ℕ)
+run-passes : (d : Device) (l : Lent) (b : ℕ)
     → made d ≡ true
-    → lentGood d (length ring) (length framebuffer) (length screen) (length cursor) ≡ true
+    → lentGood d l ≡ true
     → configuredOf d ≡ true
     → enabledOf d ≡ true
-    → leb (widthOf d * heightOf d) (pixelsOf d) ≡ true
-    → runOf d ring framebuffer screen cursor b ≡ runBy d ring framebuffer screen cursor b (conditionOf d)
+    → modeFits d ≡ true
+    → runOf d l b ≡ runBy d l b (conditionOf d)
 unfolding runOf
-run-passes d ring framebuffer screen cursor b m l c e f = rw (m, l, c, e, f)
+run-passes d l b m n c e f = rw (m, n, c, e, f)
 
 -- ---- the relation
 
@@ -87,7 +88,7 @@ stands-for (some c) g = refl
 
 ring-for : (f : Option Cause) (g h : Ring) → conditionFor f g ≡ Running h → h ≡ g
 ring-for none g h e = cc
-ring-for (some c) g h e = let z : _≡_ {A = ℕ} 0 1 = cc in absurd (omega arith)
+ring-for (some c) g h e = absurd (true≢false cc)
 
 -- what the start has shown of the device and the framebuffer
 pub record Started (w₀ : World) : Type 0 where
@@ -95,7 +96,7 @@ pub record Started (w₀ : World) : Type 0 where
   pub mode : modeGood (widthOf (w₀ .device)) (heightOf (w₀ .device)) ≡ true
   pub config : configuredOf (w₀ .device) ≡ true
   pub enable : enabledOf (w₀ .device) ≡ true
-  pub fits-screen : leb (widthOf (w₀ .device) * heightOf (w₀ .device)) (pixelsOf (w₀ .device)) ≡ true
+  pub fits-screen : modeFits (w₀ .device) ≡ true
   pub framebuffer : length (w₀ .lent .framebuffer) ≡ pixelsOf (w₀ .device)
   pub screen : length (w₀ .lent .screen) ≡ pixelsOf (w₀ .device)
   pub wide : 1 ≤ widthOf (w₀ .device)
@@ -172,15 +173,15 @@ module _ (g : Ring) (w₀ : World) where
 
     room : eqb (length (q .line .words)) cap ≡ false → canAppend ring ≡ true
     room e =
-        by-test (canAppend ring) (λ t. t)
+        cases (canAppend ring) (λ t. t)
         (λ f. absurd (eqb-false _ _ e (sym (ap length same-words) ∙ append-full ring (g .min) (g .max) (stopOf ring / 4) low high refl (s .holds .good) .0 f)))
 
     appended-shows : (x : ℕ) → canAppend ring ≡ true
-        → Shows (k + 1) (record { device = w .device; lent = withRing (w .lent) (appendTo ring x) }) (record { line = more (q .line) (x ∷ []); stands = q .stands })
+        → Shows (k + 1) (record { device = w .device; lent = withRing (w .lent) (appendTo ring x); output = w .output }) (record { line = more (q .line) (x ∷ []); stands = q .stands })
     appended-shows x e =
         let a = append-keeps ring x in
         let same = a .2 in
-        let words : wordsIn g (record { device = w .device; lent = withRing (w .lent) (appendTo ring x) }) ≡ q .line .words ++ (x ∷ []) =
+        let words : wordsIn g (record { device = w .device; lent = withRing (w .lent) (appendTo ring x); output = w .output }) ≡ q .line .words ++ (x ∷ []) =
         rw same (append-waits ring (g .min) (g .max) (stopOf ring / 4) low high refl x e ∙ ap (λ (l : List ℕ). l ++ (x ∷ [])) same-words) in
         record {
           sizes = s .sizes;
@@ -199,7 +200,7 @@ module _ (g : Ring) (w₀ : World) where
     pub append-step : (x : ℕ) → Step k (C.append x) (perform (append x) w) (act cap turn (C.append x) q)
     unfolding perform appendOf act offer taken counted
     append-step x =
-        by-test (eqb (length (q .line .words)) cap)
+        cases (eqb (length (q .line .words)) cap)
         (λ e. rw (e, full e, append-refused ring x (full e)) (record { told = refl; shows = rw add-zero s }))
         (λ e. rw (e, room e) (record { told = refl; shows = appended-shows x (room e) }))
 
@@ -215,18 +216,14 @@ module _ (g : Ring) (w₀ : World) where
     places : InWords (g .min) (g .max) memory
     places = in-words (g .min) (g .max) memory (s .holds)
 
-    condition-good : (f : Option Cause) → conditionGood (memoryOf (w₀ .device)) true (conditionFor f now) ≡ true
-    unfolding conditionGood ringGood
-    condition-good none =
+    placed-now : placed now (length memory) ≡ true
+    placed-now =
         let i = places in
-        let l = s .ring-length in
-        rw (
-          le-leb 4 (g .min) (i .head),
-          le-leb (g .max) (memoryOf (w₀ .device) / 4) (omega arith),
-          le-leb (g .min + 2560) (g .max) (i .wide),
-          le-leb (g .min) (stopOf memory / 4) (i .stop-from),
-          lt-ltb (stopOf memory / 4) (g .max) (i .stop-below),
-        )
+        when-placed now (length memory) (record { past-head = i .head; fits = i .long; size = i .wide; from = i .stop-from; below = i .stop-below })
+
+    condition-good : (f : Option Cause) → conditionGood (memoryOf (w₀ .device)) true (conditionFor f now) ≡ true
+    unfolding conditionGood
+    condition-good none = rw (← (s .ring-length)) placed-now
     condition-good (some c) = refl
 
     made-now : made (w .device) ≡ true
@@ -234,7 +231,7 @@ module _ (g : Ring) (w₀ : World) where
     made-now =
         rw (s .sizes, s .registers, s .condition, st .sizes, st .mode, st .config, condition-good (q .stands)) (s .sound .defined)
 
-    lent-now : lentGood (w .device) (length memory) (length (w .lent .framebuffer)) (length (w .lent .screen)) (length (w .lent .cursor)) ≡ true
+    lent-now : lentGood (w .device) (w .lent) ≡ true
     unfolding lentGood
     lent-now =
         rw (
@@ -246,26 +243,19 @@ module _ (g : Ring) (w₀ : World) where
           eq-eqb _ _ (s .sound .cursor),
         )
 
-    passes : (b : ℕ) → runOf (w .device) memory (w .lent .framebuffer) (w .lent .screen) (w .lent .cursor) b
-        ≡ runBy (w .device) memory (w .lent .framebuffer) (w .lent .screen) (w .lent .cursor) b (conditionFor (q .stands) now)
+    passes : (b : ℕ) → runOf (w .device) (w .lent) b
+        ≡ runBy (w .device) (w .lent) b (conditionFor (q .stands) now)
     passes b =
-        run-passes (w .device) memory (w .lent .framebuffer) (w .lent .screen) (w .lent .cursor) b made-now lent-now
+        run-passes (w .device) (w .lent) b made-now lent-now
         (rw (s .registers) (st .config)) (rw (s .registers) (st .enable)) (rw (s .registers, s .sizes) (st .fits-screen))
-        ∙ ap (runBy (w .device) memory (w .lent .framebuffer) (w .lent .screen) (w .lent .cursor) b) (s .condition)
+        ∙ ap (runBy (w .device) (w .lent) b) (s .condition)
 
     fits-now : fitting now (length memory) (length (machineIn w .cursor)) ≡ true
-    unfolding fitting placed
+    unfolding fitting
     fits-now =
         let i = places in
         let l = s .ring-length in
-        rw (
-          le-leb 4 (g .min) (i .head),
-          le-leb (g .min) (stopOf memory / 4) (i .stop-from),
-          lt-ltb (stopOf memory / 4) (g .max) (i .stop-below),
-          le-leb (g .max) 524288 (omega (arith, st .small)),
-          le-leb (g .max) (length memory) (i .long),
-          eq-eqb _ _ (s .sound .cursor),
-        )
+        rw (placed-now, le-leb (g .max) 524288 (omega (arith, st .small)), eq-eqb _ _ (s .sound .cursor))
 
     next-now : nextGood now (nextOf memory) ≡ true
     unfolding nextGood
@@ -290,11 +280,12 @@ module _ (g : Ring) (w₀ : World) where
     abbrev after : RunOutcome → World
     after o = record {
       device = o .device;
-      lent = record { ring = o .ring; framebuffer = w .lent .framebuffer; screen = o .screen; cursor = o .cursor; output = w .lent .output };
+      lent = o .lent;
+      output = w .output;
     }
 
     left-shows : (r : Ran Machine) → Leaves Right (q .line) r
-        → Shows k (after (ran (w .device) (left now memory (q .line .words) r))) (settle r .queue)
+        → Shows k (after (ran (w .device) (w .lent) (left now memory (q .line .words) r))) (settle r .queue)
     unfolding left stamped
     left-shows r l =
         let lo = g .min in
@@ -332,17 +323,17 @@ module _ (g : Ring) (w₀ : World) where
     outcome o = record { answer = o .answer; values = o .count ∷ []; world = after o }
 
     laws : Laws cap turn
-    laws = command-laws _ cap (omega (arith, places))
+    laws = command-laws knownOf (done (sceneOf w₀)) cap (omega (arith, places))
 
     sound-line : Right (q .line .machine)
     sound-line = subst (λ (l : Line Machine). Right (l .machine)) (s .line) (s .sound)
 
     run-by : (b : ℕ) (f : Option Cause) → q .stands ≡ f
-        → Step k (C.run b) (outcome (runBy (w .device) memory (w .lent .framebuffer) (w .lent .screen) (w .lent .cursor) b (conditionFor f now))) (try turn f b q)
+        → Step k (C.run b) (outcome (runBy (w .device) (w .lent) b (conditionFor f now))) (try turn f b q)
     unfolding runBy left try taken counted
     run-by b (some c) e = record { told = refl; shows = rw add-zero s }
     run-by b none e =
-        subst (λ (o : R.Outcome). Step k (C.run b) (outcome (ran (w .device) o)) (settle (runs turn b (q .line)))) (sym (runs-so b))
+        subst (λ (o : R.Outcome). Step k (C.run b) (outcome (ran (w .device) (w .lent) o)) (settle (runs turn b (q .line)))) (sym (runs-so b))
         (record { told = refl; shows = rw add-zero (left-shows (runs turn b (q .line)) (run-leaves laws Right (sound-exec (sceneOf w₀) (w₀ .lent .screen) (st .wide) cap) b (q .line) sound-line)) })
 
     pub run-step : (b : ℕ) → Step k (C.run b) (perform (run b) w) (act cap turn (C.run b) q)
@@ -354,31 +345,33 @@ module _ (g : Ring) (w₀ : World) where
 -- the tests of the start, one by one
 record Tests (w₀ : World) : Type 0 where
   there : made (w₀ .device) ≡ true
-  lent : lentGood (w₀ .device) (length (w₀ .lent .ring)) (length (w₀ .lent .framebuffer)) (length (w₀ .lent .screen)) (length (w₀ .lent .cursor)) ≡ true
+  lent : lentGood (w₀ .device) (w₀ .lent) ≡ true
   config : configuredOf (w₀ .device) ≡ true
   enable : enabledOf (w₀ .device) ≡ true
-  fits-screen : leb (widthOf (w₀ .device) * heightOf (w₀ .device)) (pixelsOf (w₀ .device)) ≡ true
+  fits-screen : modeFits (w₀ .device) ≡ true
   at-start : ringAtStart (w₀ .lent .ring) (conditionOf (w₀ .device)) ≡ true
 
 tests : (w₀ : World) → isStart w₀ ≡ true → Tests w₀
 unfolding isStart
 tests w₀ e =
     let d = w₀ .device in
-    let m = w₀ .lent in
     let a = both (made d) _ e in
-    let b = both (lentGood d (length (m .ring)) (length (m .framebuffer)) (length (m .screen)) (length (m .cursor))) _ (a .1) in
+    let b = both (lentGood d (w₀ .lent)) _ (a .1) in
     let c = both (configuredOf d) _ (b .1) in
     let f = both (enabledOf d) _ (c .1) in
-    let h = both (leb (widthOf d * heightOf d) (pixelsOf d)) _ (f .1) in
+    let h = both (modeFits d) _ (f .1) in
     record { there = a .0; lent = b .0; config = c .0; enable = f .0; fits-screen = h .0; at-start = h .1 }
 
-lent-lengths : (d : Device) (ring framebuffer screen cursor : ℕ) → lentGood d ring framebuffer screen cursor ≡ true
-    → (ring ≡ memoryOf d / 4) × (framebuffer ≡ pixelsOf d) × (screen ≡ pixelsOf d) × (cursor ≡ 4096)
+lent-lengths : (d : Device) (l : Lent) → lentGood d l ≡ true
+    → (length (l .ring) ≡ memoryOf d / 4)
+    × (length (l .framebuffer) ≡ pixelsOf d)
+    × (length (l .screen) ≡ pixelsOf d)
+    × (length (l .cursor) ≡ 4096)
 unfolding lentGood
-lent-lengths d ring framebuffer screen cursor e =
-    let a = both (eqb ring (memoryOf d / 4)) _ e in
-    let b = both (eqb framebuffer (pixelsOf d)) _ (a .1) in
-    let c = both (eqb screen (pixelsOf d)) (eqb cursor 4096) (b .1) in
+lent-lengths d l e =
+    let a = both (eqb (length (l .ring)) (memoryOf d / 4)) _ e in
+    let b = both (eqb (length (l .framebuffer)) (pixelsOf d)) _ (a .1) in
+    let c = both (eqb (length (l .screen)) (pixelsOf d)) (eqb (length (l .cursor)) 4096) (b .1) in
     (eqb-true _ _ (a .0), eqb-true _ _ (b .0), eqb-true _ _ (c .0), eqb-true _ _ (c .1))
 
 start-ring : (ring : List ℕ) (g : Ring) → ringAtStart ring (Running g) ≡ true
@@ -408,8 +401,8 @@ started w₀ e =
       config = t .config;
       enable = t .enable;
       fits-screen = t .fits-screen;
-      framebuffer = lent-lengths d _ _ _ _ (t .lent) .1;
-      screen = lent-lengths d _ _ _ _ (t .lent) .2;
+      framebuffer = lent-lengths d (w₀ .lent) (t .lent) .1;
+      screen = lent-lengths d (w₀ .lent) (t .lent) .2;
       wide = well-formed d (t .there) .width-low;
       small = well-formed d (t .there) .memory-high;
     }
@@ -426,7 +419,7 @@ unfolding fresh wordsOn
 start-shows g w₀ e q =
     let t = tests w₀ e in
     let d = w₀ .device in
-    let lengths = lent-lengths d _ _ _ _ (t .lent) in
+    let lengths = lent-lengths d (w₀ .lent) (t .lent) in
     let r = start-ring (w₀ .lent .ring) g (rw q at (t .at-start)) in
     let stop : g .stop ≡ stopOf (w₀ .lent .ring) / 4 = omega (arith, r .1) in
     record {

@@ -13,25 +13,24 @@ use Rattle.ring.specs.declared.AppendAnswer.{AppendAnswer}
 use Rattle.ring.specs.Append.{appendNumber, appended, appendOf, Appended}
 use Rattle.device.specs.declared.Device.{Device}
 use Rattle.device_run.specs.declared.Ran.{Ran}
-use Rattle.device_run.specs.Run.{RunOutcome, runNumber, ranOf, runOf}
+use Rattle.device_run.specs.Run.{Lent, withRing, RunOutcome, runNumber, ranOf, runOf}
 use Rattle.replay.specs.Calls.{World, perform, performAll}
 use Rattle.replay.specs.Replay.{world, opOf, opsOf, answersIn, Walk, walk, walkOf, Pair, pairOf}
 
 -- ---- one pair
 
-module _ (kind operand : ℕ) (d : Device) (ring framebuffer screen cursor : List ℕ) (n : ℕ) (to : List ℕ) where
-  pub pair-append : (a : AppendAnswer) → kind ≡ 0 → appended a to ≡ appendOf ring operand → n ≡ appendNumber a
-      → record { answer = n; count = 0; world = world d to framebuffer screen cursor } ≡ pairOf kind operand (world d ring framebuffer screen cursor)
+module _ (kind operand : ℕ) (d : Device) (l : Lent) (n : ℕ) where
+  pub pair-append : (to : List ℕ) (a : AppendAnswer) → kind ≡ 0 → appended a to ≡ appendOf (l .ring) operand → n ≡ appendNumber a
+      → record { answer = n; count = 0; world = world d (withRing l to) } ≡ pairOf kind operand (world d l)
   unfolding pairOf opOf perform
-  pair-append a zero q e =
-      rw (eq-eqb _ _ zero, e) (ap (λ (o : Appended). record { answer = o .answer; count = 0; world = world d (o .ring) framebuffer screen cursor }) q)
+  pair-append to a zero q e =
+      rw (eq-eqb _ _ zero, e) (ap (λ (o : Appended). record { answer = o .answer; count = 0; world = world d (withRing l (o .ring)) }) q)
 
-  pub pair-run : (r : Ran) (seen image : List ℕ) → kind ≢ 0 → ranOf r to seen image ≡ runOf d ring framebuffer screen cursor operand → n ≡ runNumber (r .answer)
-      → record { answer = n; count = r .count; world = world (r .device) to framebuffer seen image } ≡ pairOf kind operand (world d ring framebuffer screen cursor)
+  pub pair-run : (r : Ran) (m : Lent) → kind ≢ 0 → ranOf r m ≡ runOf d l operand → n ≡ runNumber (r .answer)
+      → record { answer = n; count = r .count; world = world (r .device) m } ≡ pairOf kind operand (world d l)
   unfolding pairOf opOf perform
-  pair-run r seen image some q e =
-      rw (ne-eqb _ _ some, e)
-      (ap (λ (o : RunOutcome). record { answer = o .answer; count = o .count; world = world (o .device) (o .ring) framebuffer (o .screen) (o .cursor) }) q)
+  pair-run r m some q e =
+      rw (ne-eqb _ _ some, e) (ap (λ (o : RunOutcome). record { answer = o .answer; count = o .count; world = world (o .device) (o .lent) }) q)
 
 -- ---- the list
 

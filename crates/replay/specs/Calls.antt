@@ -8,22 +8,16 @@ use Rattle.device.specs.declared.Device.{Device}
 use Rattle.device.specs.Making.{Creation, madeOf}
 use Rattle.register_read.specs.Registers.{readOf}
 use Rattle.register_write.specs.Registers.{written}
-use Rattle.device_run.specs.Run.{runOf}
+use Rattle.device_run.specs.Run.{Lent, withRing, runOf}
 use Rattle.adapter.specs.Picture.{pictureOf}
 use Rattle.adapter.specs.Offscreen.{offscreenOf}
 use Rattle.adapter.specs.Fence.{fenceOf, fencePassed}
 
--- "Calls lend 32-bit words: the ring memory (M/4 words), the framebuffer (P), the screen (P), the cursor image (4,096), and for a finished picture an output (P)."
-pub record Memories : Type 0 where
-  pub ring : List ℕ
-  pub framebuffer : List ℕ
-  pub screen : List ℕ
-  pub cursor : List ℕ
-  pub output : List ℕ
-
+-- A device, the memories that a run is lent, "and for a finished picture an output (P)".
 pub record World : Type 0 where
   pub device : Device
-  pub lent : Memories
+  pub lent : Lent
+  pub output : List ℕ
 
 -- Every public call, and what the guest and the host do between calls: any memories, of any lengths and contents, are lent from then on.
 pub data Call : Type 0 where
@@ -34,7 +28,7 @@ pub data Call : Type 0 where
   append : ℕ → Call
   picture offscreen fence : Call
   passed : ℕ → Call
-  lend : Memories → Call
+  lend : Lent → List ℕ → Call
 
 -- What a call answers: its number, and its values, if any: what was read; a run's count; the edges of a rectangle; a fence, or whether it has passed.
 pub record Outcome : Type 0 where
@@ -42,11 +36,8 @@ pub record Outcome : Type 0 where
   pub values : List ℕ
   pub world : World
 
-abbrev pub withRing : Memories → List ℕ → Memories
-withRing m ring = record { ring = ring; framebuffer = m .framebuffer; screen = m .screen; cursor = m .cursor; output = m .output }
-
-abbrev pub withOutput : Memories → List ℕ → Memories
-withOutput m output = record { ring = m .ring; framebuffer = m .framebuffer; screen = m .screen; cursor = m .cursor; output = output }
+abbrev pub withDevice : World → Device → World
+withDevice w d = record { device = d; lent = w .lent; output = w .output }
 
 -- a device made anew, or "making yields no device" and the old one stays
 abbrev pub given : Device → Option Device → Device
@@ -54,40 +45,37 @@ given d none = d
 given d (some made) = made
 
 abbrev pub created : World → Creation → Outcome
-created w c = record { answer = c .answer; values = []; world = record { device = given (w .device) (c .device); lent = w .lent } }
+created w c = record { answer = c .answer; values = []; world = withDevice w (given (w .device) (c .device)) }
 
 -- Each call by the definition that its contract cites.
 unfoldable pub perform : Call → World → Outcome
 perform (make memory pixels) w = created w (madeOf memory pixels)
 perform (write index value) w =
     let o = written (w .device) (w .lent .ring) index value in
-    record { answer = o .answer; values = []; world = record { device = o .device; lent = w .lent } }
+    record { answer = o .answer; values = []; world = withDevice w (o .device) }
 perform (read index) w = let r = readOf (w .device) index in record { answer = r .answer; values = r .value ∷ []; world = w }
 perform (run budget) w =
-    let o = runOf (w .device) (w .lent .ring) (w .lent .framebuffer) (w .lent .screen) (w .lent .cursor) budget in
+    let o = runOf (w .device) (w .lent) budget in
     record {
       answer = o .answer;
       values = o .count ∷ [];
-      world = record {
-        device = o .device;
-        lent = record { ring = o .ring; framebuffer = w .lent .framebuffer; screen = o .screen; cursor = o .cursor; output = w .lent .output };
-      };
+      world = record { device = o .device; lent = o .lent; output = w .output };
     }
 perform (append word) w =
     let o = appendOf (w .lent .ring) word in
     record {
       answer = o .answer;
       values = [];
-      world = record { device = w .device; lent = withRing (w .lent) (o .ring) };
+      world = record { device = w .device; lent = withRing (w .lent) (o .ring); output = w .output };
     }
 perform picture w =
-    let o = pictureOf (w .device) (w .lent .screen) (w .lent .cursor) (w .lent .output) in
-    record { answer = o .answer; values = []; world = record { device = w .device; lent = withOutput (w .lent) (o .output) } }
+    let o = pictureOf (w .device) (w .lent .screen) (w .lent .cursor) (w .output) in
+    record { answer = o .answer; values = []; world = record { device = w .device; lent = w .lent; output = o .output } }
 perform offscreen w =
     let e = offscreenOf (w .device) in record { answer = 0; values = e .left ∷ e .top ∷ e .right ∷ e .bottom ∷ []; world = w }
 perform fence w = record { answer = 0; values = fenceOf (w .device) ∷ []; world = w }
 perform (passed number) w = record { answer = 0; values = cond (fencePassed (fenceOf (w .device)) number) 1 0 ∷ []; world = w }
-perform (lend m) w = record { answer = 0; values = []; world = record { device = w .device; lent = m } }
+perform (lend l output) w = record { answer = 0; values = []; world = record { device = w .device; lent = l; output = output } }
 
 -- What calls in a row answer and leave, each on what the last one left.
 pub record History : Type 0 where

@@ -4,7 +4,7 @@ use mathlib.Core.Path.{_≡_}
 use mathlib.Core.Bool.{Bool, false, _&&_}
 use mathlib.Core.List.{List, [], _∷_, map}
 use mathlib.Core.Option.{Option, none, some}
-use lib.Dec.{eqb, leb}
+use lib.Dec.{eqb}
 use lib.ListN.{length}
 use Rattle.order.specs.declared.Cause.{Cause}
 use Rattle.order.specs.Straight.{Turn, Line}
@@ -14,11 +14,11 @@ use Rattle.order.specs.Claim as C
 use Rattle.ring.specs.declared.Ring.{Ring}
 use Rattle.ring.specs.Acceptance.{minOf, maxOf, nextOf, stopOf, usable}
 use Rattle.ring.specs.Waiting.{after, waiting, carried}
-use Rattle.effect.specs.Effects.{Machine}
-use Rattle.run.specs.Run.{Scene, scene, table}
+use Rattle.effect.specs.Effects.{Scene, scene, Machine}
+use Rattle.run.specs.Run.{table}
 use Rattle.device.specs.declared.Condition.{Condition}
 use Rattle.device.specs.declared.Condition.the-variants.{Idle, Running, Faulted}
-use Rattle.device.specs.Device.{pixelsOf, widthOf, heightOf, enabledOf, configuredOf, conditionOf, made}
+use Rattle.device.specs.Device.{widthOf, heightOf, enabledOf, configuredOf, conditionOf, modeFits, made}
 use Rattle.device_run.specs.Run.{lentGood, machineOf}
 use Rattle.replay.specs.Calls.{World, Call, append, run, Outcome, History}
 
@@ -35,10 +35,10 @@ ringAtStart ring (Running g) =
 unfoldable pub isStart : World → Bool
 isStart w =
     made (w .device)
-    && (lentGood (w .device) (length (w .lent .ring)) (length (w .lent .framebuffer)) (length (w .lent .screen)) (length (w .lent .cursor))
+    && (lentGood (w .device) (w .lent)
     && (configuredOf (w .device)
     && (enabledOf (w .device)
-    && (leb (widthOf (w .device) * heightOf (w .device)) (pixelsOf (w .device)) && ringAtStart (w .lent .ring) (conditionOf (w .device))))))
+    && (modeFits (w .device) && ringAtStart (w .lent .ring) (conditionOf (w .device))))))
 
 -- "uses its framebuffer, mode, MIN and MAX": document 01's table and turn, as of the start.
 abbrev pub sceneOf : World → Scene
@@ -53,7 +53,7 @@ wordsIn g w = waiting (w .lent .ring) (g .min) (g .max) (stopOf (w .lent .ring) 
 
 -- "Its state: the words left, screen, cursor image, defined cursor (none, or id, hotspot and size), fence."
 abbrev pub machineIn : World → Machine
-machineIn w = machineOf (w .device) (w .lent .screen) (w .lent .cursor)
+machineIn w = machineOf (w .device) (w .lent)
 
 abbrev pub lineIn : Ring → World → Line Machine
 lineIn g w = record { words = wordsIn g w; machine = machineIn w }

@@ -9,6 +9,7 @@ use lib.Dec.{eqb}
 use lib.ListN.{length, getD}
 use Rattle.ring.specs.Acceptance.{nextOf}
 use Rattle.device.specs.Device.{widthOf, heightOf}
+use Rattle.device_run.specs.Run.{withRing}
 use Rattle.replay.specs.Calls.{World, Call, make, write, read, run, append, picture, offscreen, fence, passed, lend, perform}
 
 -- ---- answers
@@ -25,7 +26,7 @@ row picture = 0 ∷ 20 ∷ 24 ∷ []
 row offscreen = 0 ∷ []
 row fence = 0 ∷ []
 row (passed number) = 0 ∷ []
-row (lend m) = 0 ∷ []
+row (lend l output) = 0 ∷ []
 
 abbrev pub among : ℕ → List ℕ → Bool
 among n [] = false
@@ -42,12 +43,12 @@ pub record SameBut (changes : ℕ → Type 0) (before after : List ℕ) : Type 0
 abbrev pub InMode : World → ℕ → Type 0
 InMode w i = i < widthOf (w .device) * heightOf (w .device)
 
--- A register write: of the device neither sizes nor defined cursor nor fence; no lent memory.
+-- A register write: of the device neither sizes nor marks, which are the fence and the defined cursor; no lent memory.
 pub record WriteChanges (w z : World) : Type 0 where
   pub sizes : z .device .sizes ≡ w .device .sizes
-  pub defined : z .device .defined ≡ w .device .defined
-  pub fence : z .device .fence ≡ w .device .fence
+  pub marks : z .device .marks ≡ w .device .marks
   pub lent : z .lent ≡ w .lent
+  pub output : z .output ≡ w .output
 
 -- A run: of the device the defined cursor, the fence, BUSY, and the remembered STOP or the fault; of the screen the mode's pixels; the cursor image.
 -- "ring word 3 is written. The run changes no other ring word". "framebuffer never".
@@ -59,29 +60,25 @@ pub record RunChanges (w z : World) : Type 0 where
   pub screen : SameBut (InMode w) (w .lent .screen) (z .lent .screen)
   pub cursor : length (z .lent .cursor) ≡ length (w .lent .cursor)
   pub framebuffer : z .lent .framebuffer ≡ w .lent .framebuffer
-  pub output : z .lent .output ≡ w .lent .output
+  pub output : z .output ≡ w .output
 
 -- "An append writes its word at NEXT_CMD and moves NEXT_CMD on": ring word 2 and the word where NEXT_CMD stood.
 pub record AppendChanges (w z : World) : Type 0 where
   pub ring : SameBut (λ i. (i ≡ 2) ⊎ (i ≡ nextOf (w .lent .ring) / 4)) (w .lent .ring) (z .lent .ring)
   pub device : z .device ≡ w .device
-  pub framebuffer : z .lent .framebuffer ≡ w .lent .framebuffer
-  pub screen : z .lent .screen ≡ w .lent .screen
-  pub cursor : z .lent .cursor ≡ w .lent .cursor
-  pub output : z .lent .output ≡ w .lent .output
+  -- no other lent memory
+  pub others : z .lent ≡ withRing (w .lent) (z .lent .ring)
+  pub output : z .output ≡ w .output
 
 -- A picture: "output beyond the mode is unchanged".
 pub record PictureChanges (w z : World) : Type 0 where
-  pub output : SameBut (InMode w) (w .lent .output) (z .lent .output)
+  pub output : SameBut (InMode w) (w .output) (z .output)
   pub device : z .device ≡ w .device
-  pub ring : z .lent .ring ≡ w .lent .ring
-  pub framebuffer : z .lent .framebuffer ≡ w .lent .framebuffer
-  pub screen : z .lent .screen ≡ w .lent .screen
-  pub cursor : z .lent .cursor ≡ w .lent .cursor
+  pub lent : z .lent ≡ w .lent
 
 -- What a call may have changed of w, where it left z.
 abbrev pub OnlyNamed : Call → World → World → Type 0
-OnlyNamed (make memory pixels) w z = z .lent ≡ w .lent
+OnlyNamed (make memory pixels) w z = (z .lent ≡ w .lent) × (z .output ≡ w .output)
 OnlyNamed (write index value) w z = WriteChanges w z
 OnlyNamed (read index) w z = z ≡ w
 OnlyNamed (run budget) w z = RunChanges w z
@@ -90,7 +87,7 @@ OnlyNamed picture w z = PictureChanges w z
 OnlyNamed offscreen w z = z ≡ w
 OnlyNamed fence w z = z ≡ w
 OnlyNamed (passed number) w z = z ≡ w
-OnlyNamed (lend m) w z = (z .device ≡ w .device) × (z .lent ≡ m)
+OnlyNamed (lend l output) w z = (z .device ≡ w .device) × (z .lent ≡ l) × (z .output ≡ output)
 
 -- ---- demand 1
 

@@ -13,15 +13,13 @@ use Rattle.device.specs.Device.{conditionOf}
 use Rattle.replay.specs.declared.Performed.{Performed}
 use Rattle.replay.specs.declared.Replayed.{Replayed}
 use Rattle.replay.specs.declared.Replayed.the-variants.{Refused, Done}
-use Rattle.replay.specs.Calls.{Memories, World, Outcome, perform, History, performAll}
+use Rattle.device_run.specs.Run.{Lent}
+use Rattle.replay.specs.Calls.{World, Outcome, perform, History, performAll}
 use Rattle.replay.specs.Demand.{isStart, callOf, Shown}
 
--- The memories that a replay is lent: it makes no picture, and needs no output.
-abbrev pub lending : List ℕ → List ℕ → List ℕ → List ℕ → Memories
-lending ring framebuffer screen cursor = record { ring = ring; framebuffer = framebuffer; screen = screen; cursor = cursor; output = [] }
-
-abbrev pub world : Device → List ℕ → List ℕ → List ℕ → List ℕ → World
-world d ring framebuffer screen cursor = record { device = d; lent = lending ring framebuffer screen cursor }
+-- A replay makes no picture, and needs no output.
+abbrev pub world : Device → Lent → World
+world d l = record { device = d; lent = l; output = [] }
 
 -- A pair of words, kind and operand, is an operation: kind 0 an append of the operand, every other a run with the operand as its budget.
 unfoldable pub opOf : ℕ → ℕ → Op
@@ -66,8 +64,8 @@ pub record Pair : Type 0 where
   pub count : ℕ
   pub world : World
 
-abbrev pub performed : Performed → List ℕ → List ℕ → List ℕ → List ℕ → Pair
-performed p ring framebuffer screen cursor = record { answer = p .answer; count = p .count; world = world (p .device) ring framebuffer screen cursor }
+abbrev pub performed : Performed → Lent → Pair
+performed p l = record { answer = p .answer; count = p .count; world = world (p .device) l }
 
 unfoldable pub pairOf : ℕ → ℕ → World → Pair
 pairOf kind operand w =
@@ -81,12 +79,12 @@ pub record Replays (w₀ : World) (list₀ list : List ℕ) (w : World) : Type 0
   pub demand : (g : Ring) → conditionOf (w₀ .device) ≡ Running g → Shown g w₀ (opsOf list₀) (historyOf list₀ w₀)
 
 -- The device and its memories are no start of demand 3, and nothing has changed.
-pub record Refuses (w₀ : World) (list₀ list : List ℕ) (lent : Memories) : Type 0 where
+pub record Refuses (w₀ : World) (list₀ list : List ℕ) (l : Lent) : Type 0 where
   pub no-start : isStart w₀ ≡ false
   pub same-list : list ≡ list₀
-  pub same-memories : lent ≡ w₀ .lent
+  pub same-memories : l ≡ w₀ .lent
 
 -- What a replay answers and leaves.
-abbrev pub Told : World → List ℕ → Replayed → List ℕ → Memories → Type 0
-Told w₀ list₀ Refused list lent = Refuses w₀ list₀ list lent
-Told w₀ list₀ (Done d) list lent = Replays w₀ list₀ list (record { device = d; lent = lent })
+abbrev pub Told : World → List ℕ → Replayed → List ℕ → Lent → Type 0
+Told w₀ list₀ Refused list l = Refuses w₀ list₀ list l
+Told w₀ list₀ (Done d) list l = Replays w₀ list₀ list (world d l)

@@ -4,8 +4,9 @@ use adapter::Device;
 use ring::Ring;
 ghost use mathlib.Core.Path.{_≡_};
 ghost use Rattle.device.specs.declared.Condition.the-variants.{Running};
+ghost use Rattle.device_run.specs.Run.{lentBefore, lentAfter};
 ghost use Rattle.replay.specs.Demand.{ringAtStart, isStart};
-ghost use Rattle.replay.specs.Replay.{world, lending, performed, pairOf, walk, walkOf, Told};
+ghost use Rattle.replay.specs.Replay.{world, performed, pairOf, walk, walkOf, Told};
 
 // The device as the list left it, or that the list was not begun.
 pub enum Replayed {
@@ -52,9 +53,9 @@ pub fn is_start(
     screen: &[u32],
     cursor: &[u32],
 ) -> bool
-    ensures { λ r. ⌜ r ≡ isStart (world d (now (ring .entry)) (now (framebuffer .entry)) (now (screen .entry)) (now (cursor .entry))) ⌝ }
+    ensures { λ r. ⌜ r ≡ isStart (world d (lentBefore ring framebuffer screen cursor)) ⌝ }
 {
-    let ready = adapter::is_ready(d, ring.len(), framebuffer.len(), screen.len(), cursor.len());
+    let ready = adapter::is_ready(d, ring, framebuffer, screen, cursor);
     if !ready {
         return false;
     }
@@ -78,7 +79,8 @@ fn perform_pair(
     screen: &mut [u32],
     cursor: &mut [u32],
 ) -> Performed
-    ensures { λ r. ⌜ performed r (now (ring .exit)) (now (framebuffer .entry)) (now (screen .exit)) (now (cursor .exit)) ≡ pairOf kind operand (world d (now (ring .entry)) (now (framebuffer .entry)) (now (screen .entry)) (now (cursor .entry))) ⌝ }
+    ensures { λ r. ⌜ performed r (lentAfter ring framebuffer screen cursor)
+        ≡ pairOf kind operand (world d (lentBefore ring framebuffer screen cursor)) ⌝ }
 {
     if kind == 0 {
         let taken = ring::append(ring, operand);
@@ -108,7 +110,8 @@ fn walk(
     screen: &mut [u32],
     cursor: &mut [u32],
 ) -> Device
-    ensures { λ r. ⌜ walk (now (list .exit)) (world r (now (ring .exit)) (now (framebuffer .entry)) (now (screen .exit)) (now (cursor .exit))) ≡ walkOf (now (list .entry)) (world device (now (ring .entry)) (now (framebuffer .entry)) (now (screen .entry)) (now (cursor .entry))) ⌝ }
+    ensures { λ r. ⌜ walk (now (list .exit)) (world r (lentAfter ring framebuffer screen cursor))
+        ≡ walkOf (now (list .entry)) (world device (lentBefore ring framebuffer screen cursor)) ⌝ }
 {
     let mut d = device;
     let mut i = 0;
@@ -134,7 +137,8 @@ pub fn replay(
     screen: &mut [u32],
     cursor: &mut [u32],
 ) -> Replayed
-    ensures { λ r. ⌜ Told (world device (now (ring .entry)) (now (framebuffer .entry)) (now (screen .entry)) (now (cursor .entry))) (now (list .entry)) r (now (list .exit)) (lending (now (ring .exit)) (now (framebuffer .entry)) (now (screen .exit)) (now (cursor .exit))) ⌝ }
+    ensures { λ r. ⌜ Told (world device (lentBefore ring framebuffer screen cursor)) (now (list .entry))
+        r (now (list .exit)) (lentAfter ring framebuffer screen cursor) ⌝ }
 {
     let start = is_start(device, ring, framebuffer, screen, cursor);
     if !start {

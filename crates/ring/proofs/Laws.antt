@@ -1,4 +1,5 @@
--- When ring words are accepted, condition by condition, for readers and for the crates above: exactly when `Usable` holds of them.
+-- When ring words are accepted, condition by condition, for readers and for the crates above: exactly when `Usable` holds of them. Likewise when a
+-- remembered ring lies in its memory: exactly when `Placed` holds of it.
 -- Assumes nothing.
 use mathlib.Core.Path.{_≡_, refl, ap}
 use mathlib.Core.Bool.{Bool, true, false, cond, true≢false, and-eq-true-iff}
@@ -6,10 +7,12 @@ use mathlib.Core.List.{List}
 use Prim.Native.Nat.{ℕ, _+_, _*_, _/_, _%_, _≤_, _<_}
 use native.Mathlib.Omega.{arith}
 use lib.ListN.{length}
+use lib.Dec.{leb}
 use borrow.Author.Tests.{ltb-true, leb-true, eqb-true, lt-ltb, le-leb, eq-eqb}
 use Rattle.ring.specs.declared.Ring.{Ring}
 use Rattle.ring.specs.declared.Acceptance.the-variants.{Accepted, Refused}
 use Rattle.ring.specs.Acceptance.{minOf, maxOf, nextOf, stopOf, offsetUsable, boundsUsable, usable, accepted}
+use Rattle.ring.specs.Waiting.{placed}
 
 -- document 01's conditions, in bytes
 pub record Usable (ring : List ℕ) : Type 0 where
@@ -102,3 +105,40 @@ not-chosen false r e = refl
 pub refused-ring : (ring : List ℕ) → accepted ring ≡ Refused → usable ring ≡ false
 unfolding accepted
 refused-ring ring e = not-chosen (usable ring) _ e
+
+-- ---- the remembered ring
+
+-- the bounds of a remembered ring that lies in a memory of so many words
+pub record Placed (g : Ring) (words : ℕ) : Type 0 where
+  pub past-head : 4 ≤ g .min
+  pub fits : g .max ≤ words
+  pub size : g .min + 2560 ≤ g .max
+  pub from : g .min ≤ g .stop
+  pub below : g .stop < g .max
+
+pub placed-when : (g : Ring) (words : ℕ) → placed g words ≡ true → Placed g words
+unfolding placed
+placed-when g words e =
+    let past-head = and-eq-true-iff (leb 4 (g .min)) _ .0 e in
+    let fits = and-eq-true-iff (leb (g .max) words) _ .0 (past-head .1) in
+    let size = and-eq-true-iff (leb (g .min + 2560) (g .max)) _ .0 (fits .1) in
+    let stop = and-eq-true-iff (leb (g .min) (g .stop)) _ .0 (size .1) in
+    record {
+      past-head = leb-true _ _ (past-head .0);
+      fits = leb-true _ _ (fits .0);
+      size = leb-true _ _ (size .0);
+      from = leb-true _ _ (stop .0);
+      below = ltb-true _ _ (stop .1);
+    }
+
+pub when-placed : (g : Ring) (words : ℕ) → Placed g words → placed g words ≡ true
+unfolding placed
+when-placed g words p =
+    rw (le-leb _ _ (p .past-head), le-leb _ _ (p .fits), le-leb _ _ (p .size), le-leb _ _ (p .from), lt-ltb _ _ (p .below))
+
+-- an accepted ring lies in its memory
+pub accepted-placed : (ring : List ℕ) (g : Ring) → accepted ring ≡ Accepted g → placed g (length ring) ≡ true
+accepted-placed ring g e =
+    let a = accepted-ring ring g e in
+    let u = a .0 in
+    when-placed g (length ring) (record { past-head = omega arith; fits = omega arith; size = omega arith; from = omega arith; below = omega arith })

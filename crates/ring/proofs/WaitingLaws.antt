@@ -13,10 +13,6 @@ use borrow.Author.Tests.{lt-ltb, le-ltb, le-leb, lt-leb, ltb-true, ltb-false, le
 use borrow.Table.Steps.{cases}
 use Rattle.ring.specs.Waiting.{after, ahead, between, words, waiting, carried}
 
--- a proof by the two outcomes of a test
-pub by-test {ℓ} : {A : Type ℓ} (b : Bool) → (b ≡ true → A) → (b ≡ false → A) → A
-by-test = cases
-
 -- p is a place of the ring, and the ring holds n words
 pub record InRing (lo hi p n : ℕ) : Type 0 where
   pub from : lo ≤ p

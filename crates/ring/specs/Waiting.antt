@@ -31,9 +31,11 @@ waiting ring lo hi stop next = words ring lo hi stop (between lo hi stop next)
 abbrev pub carried : ℕ → ℕ → ℕ
 carried lo hi = hi - lo - 1
 
--- The remembered ring lies in a memory of m words, and in the largest that a device can have, 2,097,152 bytes.
+-- A remembered ring lies in a ring memory of so many words as acceptance asks: "MIN ≥ 16; MAX ≤ M; MAX − MIN ≥ 10,240; .. STOP lie
+-- from MIN to below MAX", all in words.
 unfoldable pub placed : Ring → ℕ → Bool
-placed g m = leb 4 (g .min) && (leb (g .min) (g .stop) && (ltb (g .stop) (g .max) && (leb (g .max) 524288 && leb (g .max) m)))
+placed g words =
+    leb 4 (g .min) && (leb (g .max) words && (leb (g .min + 2560) (g .max) && (leb (g .min) (g .stop) && ltb (g .stop) (g .max))))
 
 -- "NEXT_CMD not a multiple of 4 or outside the ring: 13."
 unfoldable pub nextGood : Ring → ℕ → Bool

@@ -100,24 +100,24 @@ pub fn accept(ring: &[u32]) -> Acceptance
     })
 }
 
-// Whether a remembered ring lies in a memory of so many words, and in the largest that a device can have.
-// Rules out: a STOP equal to MAX; a ring over words 0 to 3.
+// Whether a remembered ring lies in a memory of so many words as acceptance asks.
+// Rules out: a STOP equal to MAX; a ring over words 0 to 3; a ring of 2,559 words.
 pub fn is_placed(g: Ring, words: usize) -> bool
     ensures { λ r. ⌜ r ≡ placed g words ⌝ }
 {
     if g.min < 4 {
         return false;
     }
+    if words < g.max as usize {
+        return false;
+    }
+    if (g.max as u64) < g.min as u64 + 2560 {
+        return false;
+    }
     if g.stop < g.min {
         return false;
     }
-    if g.max <= g.stop {
-        return false;
-    }
-    if 524288 < g.max {
-        return false;
-    }
-    g.max as usize <= words
+    g.stop < g.max
 }
 
 // Whether a run can go by NEXT_CMD: a multiple of 4 inside the remembered ring.

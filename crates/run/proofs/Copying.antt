@@ -1,18 +1,18 @@
 -- The copy of a cursor's pixels, up to the ring's end and from its begin on.
 -- Assumes nothing.
 use mathlib.Core.Path.{_≡_, sym, ap, ap₂, _∙_}
-use mathlib.Core.List.{List, _++_}
+use mathlib.Core.List.{List, _++_, append-assoc}
 use Prim.Native.Nat.{ℕ, _+_, _-_, _≤_, _<_}
 use native.Mathlib.Omega.{arith}
-use native.Mathlib.Numerals.{add-one}
 use native.Mathlib.Nat.{zero-add}
-use lib.ListN.{length, getD, take, drop, set, length-drop, take-append-drop}
-use lib.Seq.{paste, paste-suc, take-paste, drop-paste, getD-take, getD-drop, length-take-le, ext-getD, drop-drop}
+use native.Mathlib.Numerals.{add-one}
+use lib.ListN.{length, getD, take, drop, set, length-drop, length-append, take-append-drop}
+use lib.Seq.{take-all, drop-append-le, drop-at, take-at, paste, paste-suc, take-paste, drop-paste, getD-take, getD-drop, length-take-le, ext-getD, drop-drop}
 use borrow.Author.Tests.{lt-ltb, le-ltb}
 use Rattle.ring.specs.Waiting.{ahead, words}
 use Rattle.ring.proofs.WaitingLaws.{length-words, getD-straight, take-words, drop-words}
 use Rattle.run.specs.declared.View.{View}
-use Rattle.run.specs.Turns.{InView, wordsIn}
+use Rattle.run.specs.Turns.{InView, wordsIn, rowIn}
 
 -- one word more
 pub copy-more : (d : List ℕ) (to : ℕ) (ring : List ℕ) (from j : ℕ) → to + j < length d → from + j < length ring
@@ -24,48 +24,74 @@ copy-more d to ring from j a b =
 
 module _ (ring : List ℕ) (lo hi : ℕ) (there : hi ≤ length ring) where
   -- words that do not wrap stand in a row
-  straight : (p m : ℕ) → lo ≤ p → p < hi → m + lo ≤ hi → p + m ≤ hi → words ring lo hi p m ≡ take m (drop p ring)
+  pub straight : (p m : ℕ) → lo ≤ p → p < hi → m + lo ≤ hi → p + m ≤ hi → words ring lo hi p m ≡ take m (drop p ring)
   straight p m from below held room =
       ext-getD 0 _ _ (length-words ring lo hi p m ∙ sym (length-take-le m (drop p ring) (rw length-drop (omega arith))))
       (λ i h. let few : i < m = rw length-words at h in
       getD-straight ring lo hi p m i (record { from = from; below = below; held = held }) few (omega arith)
       ∙ sym (getD-take m (drop p ring) i 0 few ∙ getD-drop p ring i 0))
 
-  module _ (p n : ℕ) (from : lo ≤ p) (below : p < hi) (held : n + lo ≤ hi) (d : List ℕ) (fits : n ≤ length d) where
+  module _ (p n : ℕ) (from : lo ≤ p) (below : p < hi) (held : n + lo ≤ hi) (d : List ℕ) (to : ℕ) (fits : to + n ≤ length d) where
+    all-words : take n (words ring lo hi p n) ≡ words ring lo hi p n
+    all-words = take-all n (words ring lo hi p n) (rw length-words (omega arith))
+
     -- all of them before the ring's end
-    pub copied-straight : p + n ≤ hi → paste d 0 (drop p ring) n ≡ words ring lo hi p n ++ drop n d
-    copied-straight room = rw (zero-add n, straight p n from below held room)
+    pub copied-straight : p + n ≤ hi → paste d to (drop p ring) n ≡ paste d to (words ring lo hi p n) n
+    copied-straight room = ap (λ (w : List ℕ). take to d ++ w ++ drop (to + n) d) (sym (straight p n from below held room) ∙ sym all-words)
 
     -- some of them, and the rest from the ring's begin on
     pub copied-wrapped : (f : ℕ) → f ≡ hi - p → f ≤ n
-        → paste (paste d 0 (drop p ring) f) f (drop lo ring) (n - f) ≡ words ring lo hi p n ++ drop n d
+        → paste (paste d to (drop p ring) f) (to + f) (drop lo ring) (n - f) ≡ paste d to (words ring lo hi p n) n
     unfolding ahead
     copied-wrapped f is some =
         let s = words ring lo hi p n in
         let room : p + f ≤ hi = omega arith in
         let few : f + lo ≤ hi = omega arith in
         let head : take f (drop p ring) ≡ take f s = sym (straight p f from below few room) ∙ sym (take-words ring lo hi p n f some) in
-        let to : ahead lo hi p f ≡ lo = rw (le-ltb (p + f) hi (omega arith)) (omega arith) in
+        let begin : ahead lo hi p f ≡ lo = rw (le-ltb (p + f) hi (omega arith)) (omega arith) in
         let rest-held : n - f + lo ≤ hi = omega arith in
         let tail : take (n - f) (drop lo ring) ≡ drop f s =
         sym (straight lo (n - f) (omega arith) (omega arith) rest-held (omega arith))
-        ∙ sym (drop-words ring lo hi p n f (record { from = from; below = below; held = held }) some ∙ ap (λ q. words ring lo hi q (n - f)) to) in
-        let front : take f (paste d 0 (drop p ring) f) ≡ take f s =
-        ap (λ k. take k (paste d 0 (drop p ring) f)) (sym (zero-add f)) ∙ take-paste d 0 (drop p ring) f (omega arith) (rw length-drop (omega arith)) ∙ head in
-        let back : drop f (paste d 0 (drop p ring) f) ≡ drop f d =
-        ap (λ k. drop k (paste d 0 (drop p ring) f)) (sym (zero-add f)) ∙ drop-paste d 0 (drop p ring) f (omega arith) (rw length-drop (omega arith)) ∙ ap (λ k. drop k d) (zero-add f) in
-        let sum : f + (n - f) ≡ n = omega arith in
-        let last : drop (f + (n - f)) (paste d 0 (drop p ring) f) ≡ drop n d =
-        sym (drop-drop (n - f) f (paste d 0 (drop p ring) f)) ∙ ap (drop (n - f)) back ∙ drop-drop (n - f) f d ∙ ap (λ k. drop k d) sum in
-        ap₂ (λ (x : List ℕ) (y : List ℕ). x ++ y) (ap₂ (λ (x : List ℕ) (y : List ℕ). x ++ y) front tail ∙ take-append-drop f s) last
+        ∙ sym (drop-words ring lo hi p n f (record { from = from; below = below; held = held }) some ∙ ap (λ q. words ring lo hi q (n - f)) begin) in
+        let front : take (to + f) (paste d to (drop p ring) f) ≡ take to d ++ take f s =
+        take-paste d to (drop p ring) f (omega arith) (rw length-drop (omega arith)) ∙ ap (λ (w : List ℕ). take to d ++ w) head in
+        let sum : to + f + (n - f) ≡ to + n = omega arith in
+        let last : drop (to + f + (n - f)) (paste d to (drop p ring) f) ≡ drop (to + n) d =
+        sym (drop-drop (n - f) (to + f) (paste d to (drop p ring) f)) ∙ ap (drop (n - f)) (drop-paste d to (drop p ring) f (omega arith) (rw length-drop (omega arith)))
+        ∙ drop-drop (n - f) (to + f) d ∙ ap (λ k. drop k d) sum in
+        ap₂ (λ (x : List ℕ) (y : List ℕ). x ++ y) (ap₂ (λ (x : List ℕ) (y : List ℕ). x ++ y) front tail ∙ append-assoc (take to d) (take f s) (drop f s) ∙ ap (λ (w : List ℕ). take to d ++ w) (take-append-drop f s ∙ sym all-words)) last
 
 -- the pixels behind a cursor's head are the words from place p on
 pub pixels-from : (ring : List ℕ) (v : View) (count p : ℕ) → InView v (length ring) → 6 + count ≤ v .n → p ≡ ahead (v .lo) (v .hi) (v .at) 6
     → words ring (v .lo) (v .hi) p count ≡ take count (drop 6 (wordsIn ring v))
 pixels-from ring v count p inside some is =
     rw is
-    (sym (ap (take count) (drop-words ring (v .lo) (v .hi) (v .at) (v .n) 6 (record { from = inside .from; below = inside .below; held = inside .held }) (omega arith))
+    (sym (ap (take count) (drop-words ring (v .lo) (v .hi) (v .at) (v .n) 6 (record { from = inside .from; below = inside .below; held = omega arith }) (omega arith))
     ∙ take-words ring (v .lo) (v .hi) (ahead (v .lo) (v .hi) (v .at) 6) (v .n - 6) count (omega arith)))
+
+-- copied to the front of an image
+pub pixels-pasted : (ring : List ℕ) (v : View) (count p : ℕ) (d : List ℕ) → InView v (length ring) → 6 + count ≤ v .n → p ≡ ahead (v .lo) (v .hi) (v .at) 6
+    → paste d 0 (words ring (v .lo) (v .hi) p count) count ≡ take count (drop 6 (wordsIn ring v)) ++ drop count d
+pixels-pasted ring v count p d inside some is =
+    ap₂ (λ (x : List ℕ) (y : List ℕ). x ++ y)
+    (take-all count (words ring (v .lo) (v .hi) p count) (rw length-words (omega arith)) ∙ pixels-from ring v count p inside some is)
+    (ap (λ k. drop k d) (zero-add count))
+
+-- copied into a line, they lie there in a row
+pub line-row : (ring : List ℕ) (v : View) (n e : ℕ) (d : List ℕ) → length d ≡ 14 → n ≤ 10 → n ≤ v .n → e ≡ n + 4
+    → rowIn (paste d 4 (words ring (v .lo) (v .hi) (v .at) n) n) 4 e ≡ take n (wordsIn ring v)
+line-row ring v n e d long few some is =
+    let s = words ring (v .lo) (v .hi) (v .at) n in
+    let all : length s ≡ n = length-words ring (v .lo) (v .hi) (v .at) n in
+    let front : length (take 4 d) ≡ 4 = length-take-le 4 d (omega arith) in
+    let part : length (take n s) ≡ n = length-take-le n s (omega arith) in
+    let size : e - 4 ≡ n = omega arith in
+    let begin : 4 ≤ length (take 4 d ++ take n s) = rw length-append (omega arith) in
+    rw size
+    (ap (take n) (drop-append-le 4 (take 4 d ++ take n s) (drop (4 + n) d) begin ∙ ap (λ (w : List ℕ). w ++ drop (4 + n) d) (drop-at (take 4 d) (take n s) 4 front))
+    ∙ take-at (take n s) (drop (4 + n) d) n part
+    ∙ take-all n s (omega arith)
+    ∙ sym (take-words ring (v .lo) (v .hi) (v .at) (v .n) n some))
 
 pub six-on : (lo hi at : ℕ) → at + 6 < hi → at + 6 ≡ ahead lo hi at 6
 unfolding ahead

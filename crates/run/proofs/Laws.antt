@@ -1,49 +1,18 @@
--- What a remembered ring and its next command say by their tests, and a turn on the words of a view.
+-- What the test of NEXT_CMD says.
 -- Assumes nothing.
-use mathlib.Core.Path.{_≡_, sym, _∙_}
-use mathlib.Core.Bool.{true, cond, _&&_}
-use mathlib.Core.List.{List}
+use mathlib.Core.Path.{_≡_}
+use mathlib.Core.Bool.{true, _&&_}
 use Prim.Native.Nat.{ℕ, _/_, _%_, _≤_, _<_}
 use native.Mathlib.Omega.{arith}
-use lib.ListN.{length, getD}
 use lib.Dec.{eqb, ltb, leb}
 use borrow.Author.Tests.{leb-true, ltb-true}
 use Rattle.geometry.proofs.Tests.{both}
-use Rattle.order.specs.declared.End.the-variants.{Waiting, Fault}
-use Rattle.order.specs.declared.Cause.the-variants.{NotOffered}
 use Rattle.ring.specs.declared.Ring.{Ring}
-use Rattle.ring.proofs.WaitingLaws.{length-words, between-carried}
+use Rattle.ring.proofs.Laws.{placed-when}
+use Rattle.ring.proofs.WaitingLaws.{between-carried}
 use Rattle.ring.specs.Waiting.{placed, nextGood}
-use Rattle.command.specs.declared.Kind.{Kind}
-use Rattle.command.specs.declared.Turn.the-variants.{Ends}
-use Rattle.command.specs.Commands.{kindOf, offered, headWords, turnOn}
-use Rattle.command.specs.Words.{decoded, turnWords}
-use Rattle.command.proofs.Laws.{turn-first}
 use Rattle.run.specs.declared.View.{View}
-use Rattle.run.specs.Turns.{InView, wordsIn, viewOf}
-
--- the bounds of a remembered ring that lies in a memory of m words
-pub record Placed (g : Ring) (m : ℕ) : Type 0 where
-  pub past-head : 4 ≤ g .min
-  pub from : g .min ≤ g .stop
-  pub below : g .stop < g .max
-  pub small : g .max ≤ 524288
-  pub fits : g .max ≤ m
-
-pub placed-says : (g : Ring) (m : ℕ) → placed g m ≡ true → Placed g m
-unfolding placed
-placed-says g m e =
-    let p = both (leb 4 (g .min)) _ e in
-    let q = both (leb (g .min) (g .stop)) _ (p .1) in
-    let r = both (ltb (g .stop) (g .max)) _ (q .1) in
-    let t = both (leb (g .max) 524288) _ (r .1) in
-    record {
-      past-head = leb-true _ _ (p .0);
-      from = leb-true _ _ (q .0);
-      below = ltb-true _ _ (r .0);
-      small = leb-true _ _ (t .0);
-      fits = leb-true _ _ (t .1);
-    }
+use Rattle.run.specs.Turns.{InView, viewOf}
 
 pub next-says : (g : Ring) (next : ℕ) → nextGood g next ≡ true → (g .min ≤ next / 4) × (next / 4 < g .max)
 unfolding nextGood
@@ -56,15 +25,7 @@ next-says g next e =
 pub in-view : (g : Ring) (m next : ℕ) → placed g m ≡ true → nextGood g next ≡ true
     → InView (viewOf g next) m
 in-view g m next there good =
-    let p = placed-says g m there in
+    let p = placed-when g m there in
     let q = next-says g next good in
     let u = between-carried (g .min) (g .max) (g .stop) (next / 4) (p .from) (p .below) (q .0) (q .1) in
     record { from = p .from; below = p .below; held = omega arith; fits = p .fits }
-
--- a turn on the words of a view, by the kind of the first of them
-pub turn-view : (ring : List ℕ) (v : View) (cap x : ℕ) (k : Kind) → (v .n ≡ 0 → ⊥) → x ≡ getD (wordsIn ring v) 0 0 → k ≡ kindOf x
-    → turnWords cap (wordsIn ring v)
-    ≡ cond (offered k) (cond (leb (headWords k) (v .n)) (turnOn (decoded k (wordsIn ring v)) (v .n) cap) (Ends Waiting)) (Ends (Fault NotOffered))
-turn-view ring v cap x k some first kind =
-    let long : length (wordsIn ring v) ≡ v .n = length-words ring (v .lo) (v .hi) (v .at) (v .n) in
-    rw (kind, first) (turn-first cap (wordsIn ring v) (λ e. some (sym long ∙ e)) ∙ rw long)

@@ -1,264 +1,295 @@
 -- The turns of a run so far, and what is left of it.
 -- Assumes nothing.
 use mathlib.Core.Path.{_≡_, refl, sym, ap, ap₂, _∙_}
-use mathlib.Core.Bool.{cond}
-use mathlib.Core.Logic.{_≢_}
-use mathlib.Core.List.{List}
+use mathlib.Core.Bool.{cond, true≢false}
+use mathlib.Core.Option.{Option, none, some}
+use mathlib.Core.List.{List, _++_}
 use Prim.Native.Nat.{ℕ, suc, _+_, _-_, _*_, _≤_, _<_}
 use native.Mathlib.Omega.{arith}
-use native.Mathlib.Nat.{zero-add, add-zero}
-use native.Mathlib.Numerals.{add-one}
-use lib.Seq.{set-set, drop-drop}
 use lib.Dec.{eqb, ltb}
-use lib.ListN.{length, take, drop, length-drop, length-set}
-use borrow.Author.Tests.{ltb-true, ltb-false, lt-ltb, le-ltb, eqb-true, eqb-false, ne-eqb}
+use lib.ListN.{length, take, drop, length-drop, length-set, take-append-drop}
+use lib.Seq.{drop-drop, drop-append-le, length-take-le}
+use mathlib.Core.Logic.{_≢_}
+use borrow.Author.Tests.{ltb-true, ltb-false, lt-ltb, le-ltb, eqb-true, eqb-false, eq-eqb, ne-eqb}
+use borrow.Table.Steps.{cases}
 use Rattle.order.specs.declared.End.{End}
-use Rattle.order.specs.Straight.{Line}
+use Rattle.order.specs.Straight.{Line, ends, exec}
+use Rattle.order.specs.Straight as O
+use Rattle.order.specs.Table.{turnOf}
 use Rattle.order.specs.Claim as Claim
-use Rattle.order.specs.Queue.{Ran, oneMore, runs}
+use Rattle.order.specs.Queue.{Ran, runs}
 use Rattle.order.proofs.QueueLaws.{runs-ends, runs-exec}
-use Rattle.ring.specs.declared.Ring.{Ring}
 use Rattle.ring.specs.Waiting.{ahead, words, carried}
-use Rattle.ring.proofs.WaitingLaws.{InRing, ahead-in, ahead-zero, by-test, length-words, drop-words, words-outside}
-use Rattle.command.specs.declared.Action.{Action}
-use Rattle.command.specs.declared.Turn.{Turn}
-use Rattle.command.specs.declared.Turn.the-variants.{Ends, Executes}
-use Rattle.command.specs.Words.{turnWords}
-use Rattle.command.proofs.Laws.{asTurn, turn-words}
+use Rattle.ring.proofs.WaitingLaws.{InRing, ahead-in, ahead-zero, length-words, take-words, drop-words, words-outside}
+use Rattle.cursor.specs.declared.Defined.{Defined}
+use Rattle.command.proofs.Laws.{command-laws}
 use Rattle.effect.specs.declared.Marks.{Marks}
-use Rattle.effect.specs.Effects.{Machine, screenAfter, cursorAfter, marksAfter, done}
+use Rattle.effect.specs.Effects.{Scene, Machine, done}
 use Rattle.run.specs.declared.View.{View}
-use Rattle.run.specs.Turns.{wordsIn, InView, passedIn, Ready}
-use Rattle.run.specs.Run.{Scene, machine, placeOf, passed, stamped, left, runWords}
-use Rattle.run.specs.Going.{plus, line, turn, Going}
-use Rattle.run.proofs.Found.{found}
+use Rattle.run.specs.declared.Paused.{Paused}
+use Rattle.run.specs.Turns.{wordsIn, InView, Stands, passedIn, rowIn, rowEnd}
+use Rattle.run.specs.Run.{knownOf, machine, table, placeOf, passed, stamped, left, runWords}
+use Rattle.run.specs.Going.{plus, line, turn, marked, Going, RowGoing, After, turnedBy, turned}
+use Rattle.run.proofs.Copying.{straight}
+use Rattle.run.proofs.Counts.{plus-zero, plus-end, plus-one, plus-plus, stamped-further}
+use Rattle.run.proofs.Rows.{row-drop, row-length}
 
--- what an action does in a scene
-abbrev does : Scene → Action → List ℕ → Machine → Machine
-does s = done (s .width) (s .rows) (s .framebuffer)
-
-plus-zero : (r : Ran Machine) → r ≡ plus 0 r
-plus-zero r = λ i. record { answer = r .answer; count = sym (zero-add (r .count)) i; line = r .line }
-
-plus-end : (a : Claim.Answer) (k : ℕ) (l : Line Machine) → plus k (record { answer = a; count = 0; line = l }) ≡ record { answer = a; count = k; line = l }
-plus-end a k l = λ i. record { answer = a; count = add-zero k i; line = l }
-
-plus-one : (k : ℕ) (r : Ran Machine) → plus k (oneMore r) ≡ plus (suc k) r
-plus-one k r = λ i. record { answer = r .answer; count = moved i; line = r .line }
-  where
-    moved : k + suc (r .count) ≡ suc k + r .count
-    moved = omega arith
-
-plus-plus : (j k : ℕ) (r : Ran Machine) → plus j (plus k r) ≡ plus (j + k) r
-plus-plus j k r = λ i. record { answer = r .answer; count = together i; line = r .line }
-  where
-    together : j + (k + r .count) ≡ j + k + r .count
-    together = omega arith
+-- ---- views
 
 -- k words on, and n more
 ahead-ahead : (lo hi p k n : ℕ) → lo ≤ p → p < hi → k + n + lo ≤ hi → ahead lo hi (ahead lo hi p k) n ≡ ahead lo hi p (k + n)
 unfolding ahead
 ahead-ahead lo hi p k n from below held =
-    by-test (ltb (p + k) hi)
-    (λ t. let u : p + k < hi = ltb-true _ _ t in by-test (ltb (p + k + n) hi)
+    cases (ltb (p + k) hi)
+    (λ t. let u : p + k < hi = ltb-true _ _ t in cases (ltb (p + k + n) hi)
     (λ e. let f : p + k + n < hi = ltb-true _ _ e in rw (t, e, lt-ltb (p + (k + n)) hi (omega arith)) (omega arith))
     (λ e. let f : hi ≤ p + k + n = ltb-false _ _ e in rw (t, e, le-ltb (p + (k + n)) hi (omega arith)) (omega arith)))
     (λ t. let u : hi ≤ p + k = ltb-false _ _ t in rw (t, lt-ltb (p + k - (hi - lo) + n) hi (omega arith), le-ltb (p + (k + n)) hi (omega arith)) (omega arith))
 
--- k words passed, and n more
 passed-passed : (v : View) (k n : ℕ) → v .lo ≤ v .at → v .at < v .hi → k + n + v .lo ≤ v .hi → passedIn (passedIn v k) n ≡ passedIn v (k + n)
 passed-passed v k n from below held = λ i. record { lo = v .lo; hi = v .hi; at = ahead-ahead (v .lo) (v .hi) (v .at) k n from below held i; n = fewer i }
   where
     fewer : v .n - k - n ≡ v .n - (k + n)
     fewer = omega arith
 
--- ring word 3 written once more
-stamped-again : (count : ℕ) (to at : Ring) (ring₀ ring : List ℕ) → ring ≡ cond (eqb count 0) ring₀ (stamped at ring₀)
-    → stamped to ring ≡ cond (eqb (suc count) 0) ring₀ (stamped to ring₀)
-unfolding stamped
-stamped-again count to at ring₀ ring e =
-    rw (ne-eqb (suc count) 0 (omega arith))
-    (by-test (eqb count 0) (λ t. rw (e, t)) (λ t. rw (e, t) (set-set ring₀ 3 (at .stop * 4) (to .stop * 4))))
-
--- and after further commands, or none
-stamped-further : (count k : ℕ) (at to : Ring) (ring₀ ring later : List ℕ) → (k ≡ 0 → to ≡ at) → ring ≡ cond (eqb count 0) ring₀ (stamped at ring₀)
-    → later ≡ cond (eqb k 0) ring (stamped to ring) → later ≡ cond (eqb (count + k) 0) ring₀ (stamped to ring₀)
-unfolding stamped
-stamped-further count k at to ring₀ ring later same p q =
-    by-test (eqb k 0)
-    (λ t. let z = eqb-true k 0 t in let c : count + k ≡ count = omega arith in rw (q, t, p, c, same z))
-    (λ t. let z : k ≢ 0 = eqb-false k 0 t in rw (q, t, ne-eqb (count + k) 0 (omega arith))
-    (by-test (eqb count 0) (λ e. rw (p, e)) (λ e. rw (p, e) (set-set ring₀ 3 (at .stop * 4) (to .stop * 4)))))
-
--- an action goes by its command's own words
-done-own : (s : Scene) (a : Action) (n : ℕ) (w : List ℕ) (m : Machine) → ((cursor : List ℕ) → cursorAfter a (take n w) cursor ≡ cursorAfter a w cursor)
-    → does s a (take n w) m ≡ does s a w m
-unfolding done
-done-own s a n w m own = λ i. record {
-  screen = screenAfter (s .width) (s .rows) (s .framebuffer) a (m .screen);
-  cursor = own (m .cursor) i;
-  marks = marksAfter a (m .marks);
-}
-
--- the parts of what an action does
-all-done : (s : Scene) (a : Action) (w : List ℕ) (m : Machine) (marks : Marks) (screen cursor : List ℕ)
-    → screen ≡ screenAfter (s .width) (s .rows) (s .framebuffer) a (m .screen) → cursor ≡ cursorAfter a w (m .cursor) → marks ≡ marksAfter a (m .marks)
-    → machine marks screen cursor ≡ does s a w m
-unfolding done
-all-done s a w m marks screen cursor p q r = λ i. record { screen = p i; cursor = q i; marks = r i }
-
 same-view : (v : View) (a n : ℕ) → a ≡ v .at → n ≡ v .n → v ≡ record { lo = v .lo; hi = v .hi; at = a; n = n }
 same-view v a n p q = λ i. record { lo = v .lo; hi = v .hi; at = sym p i; n = sym q i }
 
+module _ (ring : List ℕ) (v : View) (inside : InView v (length ring)) where
+  in-ring : InRing (v .lo) (v .hi) (v .at) (v .n)
+  in-ring = record { from = inside .from; below = inside .below; held = omega (arith, inside .held) }
+
+  -- a row of a view's words
+  pub row-bounds : (v .at ≤ rowEnd v) × (rowEnd v < v .hi) × (rowEnd v ≤ v .at + v .n)
+  unfolding rowEnd
+  row-bounds =
+      let b = inside .below in
+      cases (ltb (v .at + v .n) (v .hi))
+      (λ t. let u : v .at + v .n < v .hi = ltb-true _ _ t in rw t (omega arith, omega arith, omega arith))
+      (λ t. let u : v .hi ≤ v .at + v .n = ltb-false _ _ t in rw t (omega arith, omega arith, omega arith))
+
+  -- the words of a view are those of its row, and the rest
+  row-words : wordsIn ring v ≡ rowIn ring (v .at) (rowEnd v) ++ drop (rowEnd v - v .at) (wordsIn ring v)
+  row-words =
+      let b = row-bounds in
+      let k = rowEnd v - v .at in
+      sym (take-append-drop k (wordsIn ring v))
+      ∙ ap (λ (w : List ℕ). w ++ drop k (wordsIn ring v)) (take-words ring (v .lo) (v .hi) (v .at) (v .n) k (omega (arith, b))
+      ∙ straight ring (v .lo) (v .hi) (inside .fits) (v .at) k (inside .from) (inside .below) (omega (arith, b, inside .held)) (omega (arith, b)))
+
+  row-words-behind : (at : ℕ) → v .at ≤ at → at ≤ rowEnd v
+      → drop (at - v .at) (wordsIn ring v) ≡ rowIn ring at (rowEnd v) ++ drop (rowEnd v - v .at) (wordsIn ring v)
+  row-words-behind at p q =
+      let b = row-bounds in
+      let rest = drop (rowEnd v - v .at) (wordsIn ring v) in
+      let here : v .at + (at - v .at) ≡ at = omega arith in
+      let some : at - v .at ≤ length (rowIn ring (v .at) (rowEnd v)) = rw (row-length ring (v .at) (rowEnd v) (omega (arith, b, inside .fits))) (omega arith) in
+      ap (drop (at - v .at)) row-words
+      ∙ drop-append-le (at - v .at) (rowIn ring (v .at) (rowEnd v)) rest some
+      ∙ ap (λ (w : List ℕ). w ++ rest) (row-drop ring (v .at) (at - v .at) (rowEnd v) (omega arith) ∙ ap (λ a. rowIn ring a (rowEnd v)) here)
+
+  ahead-row : (at : ℕ) → v .at ≤ at → at ≤ rowEnd v → ahead (v .lo) (v .hi) (v .at) (at - v .at) ≡ at
+  unfolding ahead
+  ahead-row at p q = let b = row-bounds in rw (lt-ltb (v .at + (at - v .at)) (v .hi) (omega (arith, b))) (omega arith)
+
+-- ---- where a run stands
+
 module _ (s : Scene) (budget : ℕ) (v₀ : View) (ring₀ : List ℕ) (m₀ : Machine) where
   -- nothing is done yet
-  pub going-start : InView v₀ (length ring₀) → Going s budget v₀ ring₀ m₀ v₀ ring₀ m₀ 0
+  pub going-start : InView v₀ (length ring₀) → Going s budget v₀ ring₀ m₀ v₀ ring₀ m₀ budget
   going-start i = record {
     bounded = omega arith;
     gone = 0;
     part = omega arith;
     still = λ e. refl;
     view = same-view v₀ _ _ (ahead-zero (v₀ .lo) (v₀ .hi) (v₀ .at) (i .below)) (omega arith);
-    memory = refl;
-    rest = let e : budget - 0 ≡ budget = omega arith in rw e (plus-zero _);
+    memory = rw (eq-eqb budget budget refl);
+    rest = let e : budget - budget ≡ 0 = omega arith in rw e (plus-zero _);
   }
 
-module _ {s : Scene} {budget : ℕ} {v₀ : View} {ring₀ : List ℕ} {m₀ : Machine} (inside : InView v₀ (length ring₀)) (low : 4 ≤ v₀ .lo)
-    {v : View} {ring : List ℕ} {m : Machine} {count : ℕ} (g : Going s budget v₀ ring₀ m₀ v ring m count) where
-  held-in : (k : ℕ) → k ≤ v₀ .n → InRing (v₀ .lo) (v₀ .hi) (v₀ .at) k
-  held-in k h = record { from = inside .from; below = inside .below; held = omega arith }
+-- commands in a row
+pub going-row : {s : Scene} {budget : ℕ} {v : View} {ring : List ℕ} {fence : ℕ} {screen : List ℕ} {end at after left : ℕ} {later painted : List ℕ}
+    → InView v (length ring) → 10 + v .lo < v .hi → end ≡ rowEnd v → RowGoing s budget ring (v .at) end fence screen at after left later painted → (defined : Defined) (cursor : List ℕ)
+    → Going s budget v ring (machine (marked fence defined) screen cursor) (passedIn v (at - v .at)) later (machine (marked after defined) painted cursor) left
+going-row {s} {budget} {v} {ring} {fence} {screen} {end} {at} {after} {left} {later} {painted} inside carries is ends-there defined cursor =
+    let g : RowGoing s budget ring (v .at) (rowEnd v) fence screen at after left later painted = rw is at ends-there in
+    let b = row-bounds ring v inside in
+    let there = ahead-row ring v inside at (g .from) (g .within) in
+    record {
+      bounded = g .bounded;
+      gone = at - v .at;
+      part = omega (arith, b, g .within);
+      still = λ e. omega (arith, g .still e .0);
+      view = refl;
+      memory = g .stamp ∙ rw there;
+      rest =
+          ap (λ (w : List ℕ). runs (turn s v) budget (line w (machine (marked fence defined) screen cursor))) (row-words ring v inside)
+          ∙ g .rest (carried (v .lo) (v .hi)) (drop (rowEnd v - v .at) (wordsIn ring v)) defined cursor (omega arith) (omega (arith, b, inside .held))
+          ∙ ap (λ (w : List ℕ). plus (budget - left) (runs (turn s v) left (line w (machine (marked after defined) painted cursor)))) (sym (row-words-behind ring v inside at (g .from) (g .within)));
+    }
 
-  same-length : length ring ≡ length ring₀
+-- one turn that goes on
+module _ {s : Scene} {left : ℕ} {v : View} {ring : List ℕ} {m : Machine} (inside : InView v (length ring)) (carries : 10 + v .lo < v .hi) (some-left : 0 < left) where
+  by-turn : (t : O.Turn Machine) → turn s v m (wordsIn ring v) ≡ t → (a : After) → a ≡ turnedBy v ring m t → a .stop ≡ none
+      → Going s left v ring m (a .view) (a .ring) (a .machine) (left - 1)
+  by-turn (ends e) q a p n = absurd (clash (sym n ∙ ap (λ (x : After). x .stop) p))
+    where
+      clash : none ≡ some e → ⊥
+      clash h = true≢false cc
+  by-turn (exec n u) q a p none-stops =
+      let l = length-words ring (v .lo) (v .hi) (v .at) (v .n) in
+      let fits = command-laws knownOf (done s) (carried (v .lo) (v .hi)) (omega arith) .takes-whole m u (wordsIn ring v) n q in
+      let k : left ≡ suc (left - 1) = omega arith in
+      rw p (record {
+        bounded = omega arith;
+        gone = n;
+        part = omega arith;
+        still = λ e. absurd (omega arith);
+        view = refl;
+        memory = rw (ne-eqb (left - 1) left (omega arith));
+        rest =
+            ap (λ j. runs (turn s v) j (line (wordsIn ring v) m)) k
+            ∙ runs-exec (turn s v) (left - 1) (line (wordsIn ring v) m) n u q
+            ∙ plus-zero _
+            ∙ plus-one 0 (left - (left - 1)) _ (omega arith);
+      })
+
+  pub going-turn : (a : After) → a ≡ turned s v ring m → a .stop ≡ none → Going s left v ring m (a .view) (a .ring) (a .machine) (left - 1)
+  unfolding turned
+  going-turn a p n = by-turn (turn s v m (wordsIn ring v)) refl a p n
+
+-- and one that ends the run: nothing changed
+pub stops-there : (s : Scene) (v : View) (ring : List ℕ) (m : Machine) (a : After) (e : End) → a ≡ turned s v ring m → a .stop ≡ some e
+    → (turn s v m (wordsIn ring v) ≡ ends e) × (a .ring ≡ ring) × (a .machine ≡ m)
+unfolding turned
+stops-there s v ring m a e p q = go (turn s v m (wordsIn ring v)) refl
+  where
+    go : (t : O.Turn Machine) → turn s v m (wordsIn ring v) ≡ t → (turn s v m (wordsIn ring v) ≡ ends e) × (a .ring ≡ ring) × (a .machine ≡ m)
+    go (ends f) h =
+        let r = rw h at p in
+        let same : f ≡ e = same-end (sym (ap (λ (x : After). x .stop) r) ∙ q) in
+        (h ∙ ap ends same, ap (λ (x : After). x .ring) r, ap (λ (x : After). x .machine) r)
+      where
+        same-end : some f ≡ some e → f ≡ e
+        same-end z = cc
+    go (exec n u) h = absurd (clash (sym (ap (λ (x : After). x .stop) (rw h at p)) ∙ q))
+      where
+        clash : none ≡ some e → ⊥
+        clash z = true≢false cc
+
+module _ {s : Scene} {budget : ℕ} {v₀ : View} {ring₀ : List ℕ} {m₀ : Machine} (inside : InView v₀ (length ring₀)) (low : 4 ≤ v₀ .lo)
+    {v : View} {ring : List ℕ} {m : Machine} {left : ℕ} (g : Going s budget v₀ ring₀ m₀ v ring m left) where
+  held-in : (k : ℕ) → k ≤ v₀ .n → InRing (v₀ .lo) (v₀ .hi) (v₀ .at) k
+  held-in k h = record { from = inside .from; below = inside .below; held = omega (arith, inside .held) }
+
+  pub same-length : length ring ≡ length ring₀
   unfolding stamped
-  same-length = by-test (eqb count 0) (λ e. rw (g .memory, e)) (λ e. rw (g .memory, e, length-set))
+  same-length = cases (eqb left budget) (λ e. rw (g .memory, e)) (λ e. rw (g .memory, e, length-set))
+
+  pub same-ends : (v .lo ≡ v₀ .lo) × (v .hi ≡ v₀ .hi)
+  same-ends = (ap (λ (x : View). x .lo) (g .view), ap (λ (x : View). x .hi) (g .view))
 
   -- the view lies in the memory, and in the ring that was remembered
   pub in-view : InView v (length ring)
   in-view =
       let p = ahead-in (v₀ .lo) (v₀ .hi) (v₀ .at) (g .gone) (held-in (g .gone) (g .part)) in
-      rw (same-length, g .view) (record { from = p .0; below = p .1; held = omega arith; fits = inside .fits })
-
-  -- ring word 3 is there, below the ring
-  pub head-there : 3 < length ring
-  head-there = let e = same-length in let i = inside in omega arith
+      rw (same-length, g .view) (record { from = p .0; below = p .1; held = omega (arith, inside .held); fits = inside .fits })
 
   -- its words are those that were there, without the ones that are gone
-  pub words-now : wordsIn ring v ≡ drop (g .gone) (wordsIn ring₀ v₀)
+  words-now : wordsIn ring v ≡ drop (g .gone) (wordsIn ring₀ v₀)
   unfolding stamped
   words-now =
       let p = ahead-in (v₀ .lo) (v₀ .hi) (v₀ .at) (g .gone) (held-in (g .gone) (g .part)) in
       let d = drop-words ring₀ (v₀ .lo) (v₀ .hi) (v₀ .at) (v₀ .n) (g .gone) (held-in (v₀ .n) (omega arith)) (g .part) in
-      by-test (eqb count 0)
+      cases (eqb left budget)
       (λ e. rw (g .memory, e, g .view) (sym d))
       (λ e. rw (g .memory, e, g .view) (words-outside ring₀ _ _ _ _ 3 _ (p .0) (p .1) (omega arith) ∙ sym d))
 
-  -- straight execution's turn is the one that the words of the view gave
-  turned : (t : Turn) → turnWords (carried (v .lo) (v .hi)) (wordsIn ring v) ≡ t → turn s v₀ m (drop (g .gone) (wordsIn ring₀ v₀)) ≡ asTurn (does s) m (drop (g .gone) (wordsIn ring₀ v₀)) t
-  turned t e =
-      turn-words (does s) (carried (v₀ .lo) (v₀ .hi)) m (drop (g .gone) (wordsIn ring₀ v₀))
-      ∙ ap (asTurn (does s) m (drop (g .gone) (wordsIn ring₀ v₀))) (ap₂ turnWords (ap (λ (x : View). carried (x .lo) (x .hi)) (sym (g .view))) (sym words-now) ∙ e)
-
-  one-more : count < budget → budget - count ≡ suc (budget - suc count)
-  one-more h = omega arith
-
-  -- a turn that ends the run
-  pub going-ends : (e : End) → count < budget → turnWords (carried (v .lo) (v .hi)) (wordsIn ring v) ≡ Ends e
-      → runs (turn s v₀) budget (line (wordsIn ring₀ v₀) m₀) ≡ record { answer = Claim.ended e; count = count; line = line (drop (g .gone) (wordsIn ring₀ v₀)) m }
-  going-ends e h q =
-      g .rest
-      ∙ rw (one-more h, runs-ends (turn s v₀) (budget - suc count) (line (drop (g .gone) (wordsIn ring₀ v₀)) m) e (turned _ q)) (plus-end _ count _)
-
-  -- the budget is spent
-  pub going-spent : budget ≤ count → runs (turn s v₀) budget (line (wordsIn ring₀ v₀) m₀) ≡ record { answer = Claim.spent; count = count; line = line (drop (g .gone) (wordsIn ring₀ v₀)) m }
-  unfolding runs
-  going-spent h = let e : budget - count ≡ 0 = omega arith in g .rest ∙ rw e (plus-end _ count _)
-
-  -- what the run leaves
-  pub going-left : (a : Claim.Answer) → runs (turn s v₀) budget (line (wordsIn ring₀ v₀) m₀) ≡ record { answer = a; count = count; line = line (drop (g .gone) (wordsIn ring₀ v₀)) m }
-      → record { answer = a; count = count; place = placeOf v; ring = ring; machine = m } ≡ runWords (turn s v₀) (placeOf v₀) budget ring₀ (wordsIn ring₀ v₀) m₀
-  unfolding runWords left
-  going-left a q =
-      let n : length (wordsIn ring₀ v₀) - length (drop (g .gone) (wordsIn ring₀ v₀)) ≡ g .gone = rw (length-drop, length-words ring₀ (v₀ .lo) (v₀ .hi) (v₀ .at) (v₀ .n)) (omega arith) in
-      let at : placeOf v ≡ passed (placeOf v₀) (g .gone) = ap placeOf (g .view) in
-      rw (q, n, ← at) (λ i. record { answer = a; count = count; place = placeOf v; ring = g .memory i; machine = m })
-
-  -- a turn that executes a command
-  pub going-on : (a : Action) (n : ℕ) → count < budget → turnWords (carried (v .lo) (v .hi)) (wordsIn ring v) ≡ Executes a n
-      → Going s budget v₀ ring₀ m₀ (passedIn v n) (stamped (placeOf (passedIn v n)) ring) (does s a (wordsIn ring v) m) (suc count)
-  going-on a n h q =
-      let f = found _ _ a n q in
-      let l = length-words ring (v .lo) (v .hi) (v .at) (v .n) in
-      let k : v .n ≡ v₀ .n - g .gone = ap (λ (x : View). x .n) (g .view) in
-      let more : g .gone + n ≤ v₀ .n = omega (arith, f .there) in
-      record {
-        bounded = omega arith;
-        gone = g .gone + n;
-        part = more;
-        still = λ e. omega arith;
-        view = ap (λ (x : View). passedIn x n) (g .view) ∙ passed-passed v₀ (g .gone) n (inside .from) (inside .below) (omega (arith, inside .held));
-        memory = stamped-again count (placeOf (passedIn v n)) (placeOf v) ring₀ ring (g .memory);
-        rest = g .rest ∙ rw (one-more h, runs-exec (turn s v₀) (budget - suc count) (line (drop (g .gone) (wordsIn ring₀ v₀)) m) n _ (turned _ q)) (plus-one count _ ∙ ap (λ (x : Line Machine). plus (suc count) (runs (turn s v₀) (budget - suc count) x)) (λ i. line (drop-drop n (g .gone) (wordsIn ring₀ v₀) i) (own-machine i)));
-      }
-    where
-      own-machine : does s a (take n (drop (g .gone) (wordsIn ring₀ v₀))) m ≡ does s a (wordsIn ring v) m
-      own-machine = rw (sym words-now) (done-own s a n (wordsIn ring v) m (found _ _ a n q .own))
-
-  pub going-again : (a : Action) (n : ℕ) → count < budget → turnWords (carried (v .lo) (v .hi)) (wordsIn ring v) ≡ Executes a n
-      → (to : View) (after : Machine) → to ≡ passedIn v n → after ≡ does s a (wordsIn ring v) m
-      → Going s budget v₀ ring₀ m₀ to (stamped (placeOf to) ring) after (count + 1)
-  going-again a n h q to after p r = rw (p, r, add-one count) (going-on a n h q)
-
-  pub going-more : (a : Action) (n : ℕ) → count < budget → turnWords (carried (v .lo) (v .hi)) (wordsIn ring v) ≡ Executes a n
-      → (to : View) (marks : Marks) (screen cursor : List ℕ) → to ≡ passedIn v n → screen ≡ screenAfter (s .width) (s .rows) (s .framebuffer) a (m .screen)
-      → cursor ≡ cursorAfter a (wordsIn ring v) (m .cursor) → marks ≡ marksAfter a (m .marks)
-      → Going s budget v₀ ring₀ m₀ to (stamped (placeOf to) ring) (machine marks screen cursor) (count + 1)
-  going-more a n h q to marks screen cursor p e f r = going-again a n h q to _ p (all-done s a (wordsIn ring v) m marks screen cursor e f r)
-
   -- commands from here on belong to the whole
-  pub going-further : {to : View} {later : List ℕ} {after : Machine} {k : ℕ} → Going s (budget - count) v ring m to later after k
-      → Going s budget v₀ ring₀ m₀ to later after (count + k)
+  pub going-further : {to : View} {later : List ℕ} {after : Machine} {k : ℕ} → Going s left v ring m to later after k → Going s budget v₀ ring₀ m₀ to later after k
   going-further {to} {later} {after} {k} f =
       let n : v .n ≡ v₀ .n - g .gone = ap (λ (x : View). x .n) (g .view) in
       let part : g .gone + f .gone ≤ v₀ .n = omega (arith, f .part, g .part) in
       let none : f .gone ≡ 0 → to ≡ v = λ z. f .view ∙ rw z (sym (same-view v _ _ (ahead-zero (v .lo) (v .hi) (v .at) (in-view .below)) (omega arith))) in
-      let fewer : budget - count - k ≡ budget - (count + k) = omega arith in
-      let there = rw (words-now, ap (λ (x : View). x .lo) (g .view), ap (λ (x : View). x .hi) (g .view)) at (f .rest) in
+      let together : budget - k ≡ budget - left + (left - k) = omega (arith, f .bounded, g .bounded) in
+      let there = rw (words-now, same-ends .0, same-ends .1) at (f .rest) in
       record {
         bounded = omega (arith, f .bounded, g .bounded);
         gone = g .gone + f .gone;
         part = part;
-        still = λ e. let a = g .still (omega arith) in let b = f .still (omega arith) in omega arith;
+        still = λ e. let a = g .still (omega (arith, f .bounded, g .bounded)) in let b = f .still (omega (arith, f .bounded, g .bounded)) in omega arith;
         view = f .view ∙ ap (λ (x : View). passedIn x (f .gone)) (g .view) ∙ passed-passed v₀ (g .gone) (f .gone) (inside .from) (inside .below) (omega (arith, inside .held));
-        memory = stamped-further count k (placeOf v) (placeOf to) ring₀ ring later (λ z. ap placeOf (none (f .still z))) (g .memory) (f .memory);
-        rest = g .rest ∙ ap (λ (r : Ran Machine). plus count r) there ∙ plus-plus count k _ ∙ ap₂ (λ (b : ℕ) (w : List ℕ). plus (count + k) (runs (turn s v₀) b (line w after))) fewer (drop-drop (f .gone) (g .gone) (wordsIn ring₀ v₀));
+        memory = stamped-further budget left k (v .at) (to .at) ring₀ ring later (g .bounded) (f .bounded) (λ z. ap (λ (x : View). x .at) (none (f .still z))) (g .memory) (f .memory);
+        rest = g .rest ∙ ap (λ (r : Ran Machine). plus (budget - left) r) there ∙ plus-plus (budget - left) (left - k) (budget - k) _ together
+            ∙ ap (λ (w : List ℕ). plus (budget - k) (runs (turn s v₀) k (line w after))) (drop-drop (f .gone) (g .gone) (wordsIn ring₀ v₀));
       }
 
-  -- what executing it asks for
-  pub can-execute : (a : Action) (n : ℕ) → turnWords (carried (v .lo) (v .hi)) (wordsIn ring v) ≡ Executes a n → Ready a (v .n)
-  can-execute a n q = rw (length-words ring (v .lo) (v .hi) (v .at) (v .n)) at (found _ _ a n q .ready)
+  -- a turn that ends the run
+  pub going-ends : (e : End) → 0 < left → turn s v m (wordsIn ring v) ≡ ends e
+      → runs (turn s v₀) budget (line (wordsIn ring₀ v₀) m₀) ≡ record { answer = Claim.ended e; count = budget - left; line = line (drop (g .gone) (wordsIn ring₀ v₀)) m }
+  going-ends e h q =
+      let k : left ≡ suc (left - 1) = omega arith in
+      let t : turn s v₀ m (drop (g .gone) (wordsIn ring₀ v₀)) ≡ ends e = rw (words-now, same-ends .0, same-ends .1) at q in
+      g .rest
+      ∙ ap (λ j. plus (budget - left) (runs (turn s v₀) j (line (drop (g .gone) (wordsIn ring₀ v₀)) m))) k
+      ∙ ap (plus (budget - left)) (runs-ends (turn s v₀) (left - 1) (line (drop (g .gone) (wordsIn ring₀ v₀)) m) e t)
+      ∙ plus-end _ (budget - left) _
 
-  -- the places that the code counts with are small
-  module _ (small : v₀ .hi ≤ 524288) where
-    same-ends : (v .lo ≡ v₀ .lo) × (v .hi ≡ v₀ .hi)
-    same-ends = (ap (λ (x : View). x .lo) (g .view), ap (λ (x : View). x .hi) (g .view))
+  -- the budget is spent
+  pub going-spent : left ≤ 0 → runs (turn s v₀) budget (line (wordsIn ring₀ v₀) m₀) ≡ record { answer = Claim.spent; count = budget; line = line (drop (g .gone) (wordsIn ring₀ v₀)) m }
+  unfolding runs
+  going-spent h = let e : left ≡ 0 = omega arith in let b : budget - left ≡ budget = omega arith in g .rest ∙ rw (b, e) (plus-end _ budget _)
 
-    pub in-place : (v .lo ≤ v .hi) × (v .at ≤ v .hi) × (v .hi ≤ 524288)
-    in-place = let e = same-ends in let i = in-view in (omega arith, omega arith, omega arith)
+  -- what the run leaves
+  pub going-left : (a : Claim.Answer) (count : ℕ) → count ≡ budget - left
+      → runs (turn s v₀) budget (line (wordsIn ring₀ v₀) m₀) ≡ record { answer = a; count = count; line = line (drop (g .gone) (wordsIn ring₀ v₀)) m }
+      → record { answer = a; count = count; place = placeOf v; ring = ring; machine = m } ≡ runWords (turn s v₀) (placeOf v₀) budget ring₀ (wordsIn ring₀ v₀) m₀
+  unfolding runWords left
+  going-left a count c q =
+      let n : length (wordsIn ring₀ v₀) - length (drop (g .gone) (wordsIn ring₀ v₀)) ≡ g .gone = rw (length-drop, length-words ring₀ (v₀ .lo) (v₀ .hi) (v₀ .at) (v₀ .n)) (omega (arith, g .part)) in
+      let at : placeOf v ≡ passed (placeOf v₀) (g .gone) = ap placeOf (g .view) in
+      rw (q, n, ← at) (λ i. record { answer = a; count = count; place = placeOf v; ring = (g .memory ∙ same-test ∙ ap (λ p. cond (eqb count 0) ring₀ (stamped p ring₀)) (ap (λ (x : View). x .at) (g .view))) i; machine = m })
+    where
+      same-test : cond (eqb left budget) ring₀ (stamped (v .at) ring₀) ≡ cond (eqb count 0) ring₀ (stamped (v .at) ring₀)
+      same-test =
+          cases (eqb left budget)
+          (λ t. let z : count ≡ 0 = omega (arith, eqb-true left budget t) in rw (t, z))
+          (λ t. let f : left ≢ budget = eqb-false left budget t in rw (t, ne-eqb count 0 (omega (arith, g .bounded))))
 
-    -- the view is one from which turns may start
-    pub can-start : InView v (length ring) × ((4 ≤ v .lo) × (v .hi ≤ 524288))
-    can-start = let e = same-ends in (in-view, (omega arith, in-place .2))
+  -- a run may go on from here
+  pub can-stand : {cursor₀ cursor : List ℕ} → Stands v₀ ring₀ cursor₀ → length cursor ≡ length cursor₀ → Stands v ring cursor
+  can-stand h same = record {
+    inside = in-view;
+    low = omega (arith, same-ends .0, h .low);
+    small = omega (arith, same-ends .1, h .small);
+    carries = omega (arith, same-ends .0, same-ends .1, h .carries);
+    image = same ∙ h .image;
+  }
 
-    pub can-pass : (a : Action) (n : ℕ) → turnWords (carried (v .lo) (v .hi)) (wordsIn ring v) ≡ Executes a n
-        → (v .lo ≤ v .at) × (v .at < v .hi) × (n ≤ v .n) × (v .n + v .lo ≤ v .hi) × (v .hi ≤ 524288)
-    can-pass a n q =
-        let i = in-view in
-        let l = length-words ring (v .lo) (v .hi) (v .at) (v .n) in
-        (i .from, i .below, omega (arith, found _ _ a n q .there), i .held, in-place .2)
+-- the commands of a row, as part of the whole
+pub going-rows : {s : Scene} {budget : ℕ} {v₀ : View} {ring₀ cursor₀ : List ℕ} {m₀ : Machine} {v : View} {ring screen cursor : List ℕ} {marks : Marks} {left : ℕ}
+    {end at after later : ℕ} {memory painted : List ℕ} → Stands v₀ ring₀ cursor₀ → Going s budget v₀ ring₀ m₀ v ring (machine marks screen cursor) left → Stands v ring cursor
+    → end ≡ rowEnd v → RowGoing s left ring (v .at) end (marks .fence) screen at after later memory painted → (to : View) → to ≡ passedIn v (at - v .at)
+    → Going s budget v₀ ring₀ m₀ to memory (machine (marked after (marks .defined)) painted cursor) later
+going-rows {cursor} {marks} first g here is row to p =
+    rw p (going-further (first .inside) (first .low) g (going-row (here .inside) (here .carries) is row (marks .defined) cursor))
 
-    pub stop-small : (a : Action) (n : ℕ) → turnWords (carried (v .lo) (v .hi)) (wordsIn ring v) ≡ Executes a n → (to : View) → to ≡ passedIn v n → to .at < 524288
-    stop-small a n q to e =
-        let c = can-pass a n q in
-        let p = ahead-in (v .lo) (v .hi) (v .at) n (record { from = c .0; below = c .1; held = omega arith }) in
-        let f : to .at ≡ ahead (v .lo) (v .hi) (v .at) n = ap (λ (x : View). x .at) e in
-        omega arith
+-- one turn more
+pub going-one : {s : Scene} {budget : ℕ} {v₀ : View} {ring₀ cursor₀ : List ℕ} {m₀ : Machine} {v : View} {ring cursor : List ℕ} {m : Machine} {left : ℕ}
+    → Stands v₀ ring₀ cursor₀ → Going s budget v₀ ring₀ m₀ v ring m left → Stands v ring cursor → 0 < left → (a : After) → a ≡ turned s v ring m → a .stop ≡ none
+    → Going s budget v₀ ring₀ m₀ (a .view) (a .ring) (a .machine) (left - 1)
+going-one first g here h a p q = going-further (first .inside) (first .low) g (going-turn (here .inside) (here .carries) h a p q)
+
+-- what the run gives where a turn ends it
+pub going-stops : {s : Scene} {budget : ℕ} {v₀ : View} {ring₀ cursor₀ : List ℕ} {m₀ : Machine} {v : View} {ring : List ℕ} {m : Machine} {left : ℕ}
+    → Stands v₀ ring₀ cursor₀ → Going s budget v₀ ring₀ m₀ v ring m left → 0 < left → (a : After) → a ≡ turned s v ring m → (e : End) → a .stop ≡ some e
+    → (o : Machine) → o .marks ≡ m .marks → o .screen ≡ a .machine .screen → o .cursor ≡ a .machine .cursor
+    → record { answer = Claim.ended e; count = budget - left; place = placeOf v; ring = a .ring; machine = o } ≡ runWords (turn s v₀) (placeOf v₀) budget ring₀ (wordsIn ring₀ v₀) m₀
+going-stops {s} {v} {ring} {m} first g h a p e q o marks screen cursor =
+    let t = stops-there s v ring m a e p q in
+    let same : o ≡ m = λ i. record {
+      screen = (screen ∙ ap (λ (x : Machine). x .screen) (t .2)) i;
+      cursor = (cursor ∙ ap (λ (x : Machine). x .cursor) (t .2)) i;
+      marks = marks i;
+    } in
+    rw (t .1, same) (going-left (first .inside) (first .low) g _ _ refl (going-ends (first .inside) (first .low) g e h (t .0)))

@@ -5,8 +5,9 @@ use mathlib.Core.Bool.{true, false}
 use mathlib.Core.List.{List}
 use Prim.Native.Nat.{ℕ, zero, suc, _-_, _/_, _≤_, _<_}
 use native.Mathlib.Omega.{arith}
+use lib.Dec.{leb}
 use lib.ListN.{length}
-use borrow.Author.Tests.{ne-eqb, eqb-true}
+use borrow.Author.Tests.{ne-eqb, eqb-true, leb-true}
 use Rattle.geometry.proofs.Tests.{both}
 use Rattle.order.specs.declared.End.the-variants.{Fault}
 use Rattle.order.specs.declared.Cause.the-variants.{BadNext}
@@ -19,12 +20,13 @@ use Rattle.order.proofs.QueueLaws.{runs-ends}
 use Rattle.ring.specs.declared.Ring.{Ring}
 use Rattle.ring.specs.Acceptance.{nextOf}
 use Rattle.ring.specs.Waiting.{ahead, waiting, carried, placed, nextGood}
+use Rattle.ring.proofs.Laws.{placed-when}
 use Rattle.ring.proofs.WaitingLaws.{ahead-zero}
-use Rattle.effect.specs.Effects.{Machine}
+use Rattle.effect.specs.Effects.{Scene, Machine}
 use Rattle.run.specs.declared.View.{View}
-use Rattle.run.specs.Turns.{InView, wordsIn, viewOf}
-use Rattle.run.specs.Run.{Scene, table, placeOf, turnIn, left, runWords, lost, fitting, runIn}
-use Rattle.run.proofs.Laws.{placed-says, next-says, in-view}
+use Rattle.run.specs.Turns.{Stands, wordsIn, viewOf}
+use Rattle.run.specs.Run.{table, placeOf, turnIn, left, runWords, lost, fitting, runIn}
+use Rattle.run.proofs.Laws.{next-says, in-view}
 
 -- where the tests of lengths fail
 pub run-unfit : (s : Scene) (g : Ring) (budget : ℕ) (ring : List ℕ) (m : Machine) → fitting g (length ring) (length (m .cursor)) ≡ false
@@ -62,7 +64,7 @@ pub run-lost : (s : Scene) (g : Ring) (budget : ℕ) (ring : List ℕ) (m : Mach
     → runIn s g budget ring m ≡ record { answer = lost budget; count = 0; place = g; ring = ring; machine = m }
 unfolding runIn runWords
 run-lost s g budget ring m fits bad =
-    let p = placed-says g (length ring) (fitting-placed g _ _ fits) in
+    let p = placed-when g (length ring) (fitting-placed g _ _ fits) in
     rw (fits, runs-lost s g (nextOf ring) budget m _ bad) (left-same g ring _ _ m (p .below))
 
 -- NEXT_CMD usable: the turn is straight execution's
@@ -85,17 +87,24 @@ run-good s g budget ring m v fits good e =
 pub can-view : (g : Ring) (words image next : ℕ) → fitting g words image ≡ true → nextGood g next ≡ true
     → (g .min ≤ g .stop) × (g .stop < g .max) × (g .min ≤ next / 4) × (next / 4 < g .max)
 can-view g words image next fits good =
-    let p = placed-says g words (fitting-placed g words image fits) in
+    let p = placed-when g words (fitting-placed g words image fits) in
     let q = next-says g next good in
     (p .from, p .below, q .0, q .1)
 
 pub head-there : (g : Ring) (words image : ℕ) → fitting g words image ≡ true → 2 < words
-head-there g words image fits = let p = placed-says g words (fitting-placed g words image fits) in omega arith
+head-there g words image fits = let p = placed-when g words (fitting-placed g words image fits) in omega arith
 
-pub can-turn : (g : Ring) (words image next : ℕ) (v : View) → fitting g words image ≡ true → nextGood g next ≡ true → v ≡ viewOf g next
-    → InView v words × ((4 ≤ v .lo) × (v .hi ≤ 524288)) × (image ≡ 4096)
+pub can-turn : (g : Ring) (ring cursor : List ℕ) (next : ℕ) (v : View) → fitting g (length ring) (length cursor) ≡ true → nextGood g next ≡ true → v ≡ viewOf g next
+    → Stands v ring cursor
 unfolding fitting
-can-turn g words image next v fits good e =
-    let there = fitting-placed g words image fits in
-    let p = placed-says g words there in
-    rw e (in-view g words next there good, (p .past-head, p .small), eqb-true _ _ (both (placed g words) _ fits .1))
+can-turn g ring cursor next v fits good e =
+    let there = fitting-placed g (length ring) (length cursor) fits in
+    let p = placed-when g (length ring) there in
+    let rest = both (leb (g .max) 524288) _ (both (placed g (length ring)) _ fits .1) in
+    rw e record {
+      inside = in-view g (length ring) next there good;
+      low = p .past-head;
+      small = leb-true _ _ (rest .0);
+      carries = omega (arith, p .size);
+      image = eqb-true _ _ (rest .1);
+    }

@@ -2,7 +2,7 @@
 use Prim.Native.Nat.{ℕ, _-_, _*_, _/_}
 use mathlib.Core.Bool.{Bool, cond, _&&_}
 use mathlib.Core.List.{List}
-use lib.Dec.{eqb}
+use lib.Dec.{eqb, leb}
 use lib.ListN.{length, set}
 use Rattle.order.specs.declared.End.the-variants.{Fault}
 use Rattle.order.specs.declared.Cause.the-variants.{BadNext}
@@ -14,30 +14,25 @@ use Rattle.order.specs.Queue as Queue
 use Rattle.ring.specs.declared.Ring.{Ring}
 use Rattle.ring.specs.Acceptance.{nextOf}
 use Rattle.ring.specs.Waiting.{ahead, waiting, carried, placed, nextGood}
-use Rattle.command.specs.Offered.{commands}
+use Rattle.command.specs.Commands.{Known, commands}
 use Rattle.effect.specs.declared.Marks.{Marks}
-use Rattle.effect.specs.Effects.{Machine, done}
+use Rattle.effect.specs.Effects.{Scene, Machine, done}
 use Rattle.run.specs.declared.View.{View}
 use Rattle.run.specs.declared.Answer.{Answer}
 use Rattle.run.specs.declared.Answer.the-variants.{Spent, Ended}
 use Rattle.run.specs.declared.Ran.{Ran}
 
--- What a run does not change: the mode and the framebuffer.
-pub record Scene : Type 0 where
-  pub width : ℕ
-  pub rows : ℕ
-  pub framebuffer : List ℕ
-
-abbrev pub scene : ℕ → ℕ → List ℕ → Scene
-scene width rows framebuffer = record { width = width; rows = rows; framebuffer = framebuffer }
-
 -- The machine of straight execution, from what the code holds.
 abbrev pub machine : Marks → List ℕ → List ℕ → Machine
 machine marks screen cursor = record { screen = screen; cursor = cursor; marks = marks }
 
+-- What the commands' checks know of it.
+abbrev pub knownOf : Machine → Known
+knownOf m = tt
+
 -- Document 01's commands, each doing what the contracts of the painters, of the cursor's copy and of the fence say.
 abbrev pub table : Scene → Table Machine
-table s = commands (done (s .width) (s .rows) (s .framebuffer))
+table s = commands knownOf (done s)
 
 -- "Each turn, in this order: budget used up: 2. NEXT_CMD not a multiple of 4 or outside the ring: 13. NEXT_CMD = STOP: 0. .." The budget is looked at by
 -- `runs`, what follows 13 by `turnOf`. A run does not write NEXT_CMD, so it is the same in each turn.
@@ -48,9 +43,9 @@ turnIn s g next m w = unless (nextGood g next) (ends (Fault BadNext)) (turnOf (c
 abbrev pub passed : Ring → ℕ → Ring
 passed g n = record { min = g .min; max = g .max; stop = ahead (g .min) (g .max) (g .stop) n }
 
--- "ring word 3 is written": all that a run writes into ring words, in bytes.
-unfoldable pub stamped : Ring → List ℕ → List ℕ
-stamped g ring = set ring 3 (g .stop * 4)
+-- "ring word 3 is written": all that a run writes into ring words, in bytes, where STOP has come to this word.
+unfoldable pub stamped : ℕ → List ℕ → List ℕ
+stamped stop ring = set ring 3 (stop * 4)
 
 -- What a run gives: its answer, "the number of commands consumed in this run", and all that it can change.
 pub record Outcome : Type 0 where
@@ -89,7 +84,7 @@ left g ring words r =
       answer = r .answer;
       count = r .count;
       place = to;
-      ring = cond (eqb (r .count) 0) ring (stamped to ring);
+      ring = cond (eqb (r .count) 0) ring (stamped (to .stop) ring);
       machine = r .line .machine;
     }
 
@@ -101,9 +96,9 @@ runWords turn g budget ring words m = left g ring words (Queue.runs turn budget 
 unfoldable pub lost : ℕ → Claim.Answer
 lost budget = cond (eqb budget 0) Claim.spent (Claim.ended (Fault BadNext))
 
--- The remembered ring lies in the ring memory, and the cursor image has its 4,096 words.
+-- The remembered ring lies in the ring memory, and in the largest that a device can have, 2,097,152 bytes; the cursor image has its 4,096 words.
 unfoldable pub fitting : Ring → ℕ → ℕ → Bool
-fitting g words image = placed g words && eqb image 4096
+fitting g words image = placed g words && (leb (g .max) 524288 && eqb image 4096)
 
 -- A run. With a ring that lies outside its memory, or another cursor image, it does nothing and answers 13; no device gets there.
 unfoldable pub runIn : Scene → Ring → ℕ → List ℕ → Machine → Outcome

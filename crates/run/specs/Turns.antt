@@ -1,34 +1,34 @@
--- The words that wait in a ring memory, as a run walks over them: document 01, "One command out of the ring".
-use mathlib.Core.Path.{_≡_}
+-- The words that wait in a ring memory, as a run walks over them: document 01, "One command out of the ring". Nothing here has to be believed.
 use Prim.Native.Nat.{ℕ, _+_, _-_, _*_, _/_, _≤_, _<_}
-use mathlib.Core.Bool.{Bool, _&&_}
+use mathlib.Core.Bool.{cond}
 use mathlib.Core.List.{List}
-use lib.Dec.{leb}
-use lib.ListN.{getD}
+use lib.Dec.{ltb}
+use lib.ListN.{length, take, drop}
+use mathlib.Core.Path.{_≡_}
 use Rattle.ring.specs.declared.Ring.{Ring}
 use Rattle.ring.specs.Waiting.{ahead, between, words}
 use Rattle.command.specs.declared.Action.{Action}
 use Rattle.command.specs.declared.Action.the-variants.{Update, Fill, Copy, Define, Fence, Nothing}
-use Rattle.command.specs.declared.Head.{Head}
-use Rattle.command.specs.Heads.{headIn}
 use Rattle.run.specs.declared.View.{View}
-use Rattle.run.specs.declared.Next.{Next}
-use Rattle.run.specs.declared.Next.the-variants.{Unread, Read}
 
 -- The words of a view.
 abbrev pub wordsIn : List ℕ → View → List ℕ
 wordsIn ring v = words ring (v .lo) (v .hi) (v .at) (v .n)
 
--- A view lies in a ring memory of m words.
+-- A view lies in a ring memory of m words, and has no more words than the ring carries.
 pub record InView (v : View) (m : ℕ) : Type 0 where
   pub from : v .lo ≤ v .at
   pub below : v .at < v .hi
-  pub held : v .n + v .lo ≤ v .hi
+  pub held : v .n + v .lo < v .hi
   pub fits : v .hi ≤ m
 
--- The next eight words wait in a row.
-unfoldable pub near : View → Bool
-near v = leb 8 (v .n) && leb 8 (v .hi - v .at)
+-- A view from which a run may start, with the lent ring and cursor image.
+pub record Stands (v : View) (ring cursor : List ℕ) : Type 0 where
+  pub inside : InView v (length ring)
+  pub low : 4 ≤ v .lo
+  pub small : v .hi ≤ 524288
+  pub carries : 10 + v .lo < v .hi
+  pub image : length cursor ≡ 4096
 
 -- A view behind its first k words.
 abbrev pub passedIn : View → ℕ → View
@@ -47,20 +47,19 @@ Ready (Define s) n = (6 + s .w * s .h ≤ n) × (s .w ≤ 64) × (s .h ≤ 64)
 Ready (Fence number) n = Unit {0}
 Ready Nothing n = Unit {0}
 
--- Eight words from word at on.
-abbrev pub headFrom : List ℕ → ℕ → Head
-headFrom w at = record {
-  number = getD w at 0;
-  w1 = getD w (at + 1) 0;
-  w2 = getD w (at + 2) 0;
-  w3 = getD w (at + 3) 0;
-  w4 = getD w (at + 4) 0;
-  w5 = getD w (at + 5) 0;
-  w6 = getD w (at + 6) 0;
-  w7 = getD w (at + 7) 0;
-}
+-- ---- rows of words
 
--- What is known of the next command is what waits.
-abbrev pub Known : Next → List ℕ → Type 0
-Known Unread words = Unit {0}
-Known (Read h) words = h ≡ headIn words
+-- The words from word a up to word e.
+abbrev pub rowIn : List ℕ → ℕ → ℕ → List ℕ
+rowIn memory a e = take (e - a) (drop a memory)
+
+-- Where the words of a view end that lie in a row. The ring's last word is in no row, so that STOP never comes to stand at MAX.
+unfoldable pub rowEnd : View → ℕ
+rowEnd v = cond (ltb (v .at + v .n) (v .hi)) (v .at + v .n) (v .hi - 1)
+
+-- The first ten words, or all where there are fewer, in a row from word 4 of a line up to word e.
+pub record LineOf (words line : List ℕ) (e : ℕ) : Type 0 where
+  pub size : length line ≡ 14
+  pub low : 4 ≤ e
+  pub high : e ≤ 14
+  pub row : rowIn line 4 e ≡ take 10 words

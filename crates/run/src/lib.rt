@@ -1,7 +1,8 @@
 // A run: commands out of the ring, one turn after the other, until the budget is spent or a turn ends it.
 use command::Action;
-use command::Head;
-use command::Turn;
+use command::Data;
+use command::Finding;
+use command::Step;
 use effect::Marks;
 use order::Cause;
 use order::End;
@@ -10,15 +11,16 @@ ghost use mathlib.Core.Path.{_≡_};
 ghost use Prim.Native.Nat.{_+_, _/_, _≤_, _<_};
 ghost use mathlib.Core.List.{_++_};
 ghost use lib.ListN.{length, getD, take, drop};
-ghost use Rattle.order.specs.Table.{turnOf};
 ghost use lib.Seq.{paste};
+ghost use Rattle.order.specs.Table.{turnOf};
 ghost use Rattle.ring.specs.Waiting.{between, words, carried};
-ghost use Rattle.command.specs.Words.{turnWords};
-ghost use Rattle.command.specs.Heads.{headIn};
-ghost use Rattle.effect.specs.Effects.{cursorAfter};
-ghost use Rattle.run.specs.Turns.{InView, wordsIn, near, passedIn, viewOf, Ready, headFrom, Known};
-ghost use Rattle.run.specs.Going.{PlainRun};
-ghost use Rattle.run.specs.Run.{ranTo, scene, machine, table, placeOf, outcome, runWords, fitting, lost, answerOf, runIn};
+ghost use Rattle.command.specs.Commands.{kindIn};
+ghost use Rattle.command.specs.Findings.{kindWith};
+ghost use Rattle.effect.specs.Effects.{scene, cursorAfter};
+ghost use Rattle.run.specs.declared.Stop.the-variants.{Stops};
+ghost use Rattle.run.specs.Turns.{InView, Stands, wordsIn, passedIn, viewOf, Ready, rowEnd, LineOf};
+ghost use Rattle.run.specs.Going.{RowRun, after, turned, DataTurned};
+ghost use Rattle.run.specs.Run.{ranTo, machine, table, placeOf, stamped, outcome, runWords, fitting, lost, answerOf, runIn};
 
 // The words that wait in a ring from word lo to below word hi: n of them, from word at on.
 struct View {
@@ -41,112 +43,6 @@ pub struct Ran {
     pub count: u32,
     pub ring: Ring,
     pub marks: Marks,
-}
-
-// The i-th word that waits, or 0 where fewer wait.
-fn word_at(ring: &[u32], v: View, i: usize) -> u32
-    requires { ⌜ InView v (length (now ring)) ⌝ }
-    ensures { λ r. ⌜ r ≡ getD (wordsIn (now (ring .entry)) v) i 0 ⌝ }
-{
-    let n = v.n;
-    if n <= i {
-        return 0;
-    }
-    let lo = v.lo;
-    let hi = v.hi;
-    let at = v.at;
-    let first = hi - at;
-    if i < first {
-        let k = at + i;
-        return ring[k];
-    }
-    let k = lo + (i - first);
-    ring[k]
-}
-
-// What is known of the next command: nothing yet, or its head.
-enum Next {
-    Unread,
-    Read(Head),
-}
-
-// Eight words in a row.
-fn fetch_near(ring: &[u32], at: usize) -> Head
-    requires { ⌜ at + 8 ≤ length (now ring) ⌝ }
-    ensures { λ r. ⌜ r ≡ headFrom (now (ring .entry)) at ⌝ }
-{
-    Head {
-        number: ring[at],
-        w1: ring[at + 1],
-        w2: ring[at + 2],
-        w3: ring[at + 3],
-        w4: ring[at + 4],
-        w5: ring[at + 5],
-        w6: ring[at + 6],
-        w7: ring[at + 7],
-    }
-}
-
-// The same where the ring ends among them, or fewer wait.
-fn fetch_far(ring: &[u32], v: View) -> Head
-    requires { ⌜ InView v (length (now ring)) ⌝ }
-    ensures { λ r. ⌜ r ≡ headIn (wordsIn (now (ring .entry)) v) ⌝ }
-{
-    Head {
-        number: word_at(ring, v, 0),
-        w1: word_at(ring, v, 1),
-        w2: word_at(ring, v, 2),
-        w3: word_at(ring, v, 3),
-        w4: word_at(ring, v, 4),
-        w5: word_at(ring, v, 5),
-        w6: word_at(ring, v, 6),
-        w7: word_at(ring, v, 7),
-    }
-}
-
-// A command's head, each word read once.
-fn fetch(ring: &[u32], v: View) -> Head
-    requires { ⌜ InView v (length (now ring)) ⌝ }
-    ensures { λ r. ⌜ r ≡ headIn (wordsIn (now (ring .entry)) v) ⌝ }
-{
-    let n = v.n;
-    let hi = v.hi;
-    let at = v.at;
-    if 8 <= n {
-        if 8 <= hi - at {
-            return fetch_near(ring, at);
-        }
-    }
-    fetch_far(ring, v)
-}
-
-// The head of the next command, fetched unless it was read already.
-fn head_of(ring: &[u32], v: View, next: Next) -> Head
-    requires { ⌜ InView v (length (now ring)) ⌝ }
-    requires { ⌜ Known next (wordsIn (now ring) v) ⌝ }
-    ensures { λ r. ⌜ r ≡ headIn (wordsIn (now (ring .entry)) v) ⌝ }
-{
-    match next {
-        Next::Unread => fetch(ring, v),
-        Next::Read(h) => h,
-    }
-}
-
-// What a turn finds at the words of a view.
-fn turn_at(ring: &[u32], v: View, next: Next) -> Turn
-    requires { ⌜ InView v (length (now ring)) ⌝ }
-    requires { ⌜ Known next (wordsIn (now ring) v) ⌝ }
-    ensures { λ r. ⌜ r ≡ turnWords (carried (v .lo) (v .hi)) (wordsIn (now (ring .entry)) v) ⌝ }
-{
-    let n = v.n;
-    if n == 0 {
-        return Turn::Ends(End::Drained);
-    }
-    let lo = v.lo;
-    let hi = v.hi;
-    let carries = hi - lo - 1;
-    let h = head_of(ring, v, next);
-    command::turn_in(command::kind_of(h.number), h, n as u64, carries as u64)
 }
 
 // How many words lie from place p up to place q of a ring from lo to below hi.
@@ -179,30 +75,46 @@ fn view_of(at: Ring, next: u32) -> View
 
 // ---- a command executed
 
-// n words of the ring from word from on, into the cursor image from word to on.
-fn copy_span(ring: &[u32], from: usize, cursor: &mut [u32], to: usize, n: usize)
-    requires { ⌜ (from + n ≤ length (now ring)) × (to + n ≤ length (now cursor)) ⌝ }
-    ensures { λ _. ⌜ now (cursor .exit) ≡ paste (now (cursor .entry)) to (drop from (now (ring .entry))) n ⌝ }
+// "ring word 3 is written": the only function that writes ring words. STOP has come to word at.
+fn stamp(ring: &mut [u32], at: usize)
+    requires { ⌜ (4 ≤ length (now ring)) × (at ≤ 524288) ⌝ }
+    ensures { λ _. ⌜ now (ring .exit) ≡ stamped at (now (ring .entry)) ⌝ }
+{
+    ring[3] = (at * 4) as u32;
+}
+
+// n words of the ring from word from on, into an image from word to on.
+fn copy_span(ring: &[u32], from: usize, image: &mut [u32], to: usize, n: usize)
+    requires { ⌜ (from + n ≤ length (now ring)) × (to + n ≤ length (now image)) ⌝ }
+    ensures { λ _. ⌜ now (image .exit) ≡ paste (now (image .entry)) to (drop from (now (ring .entry))) n ⌝ }
 {
     let mut j = 0;
     while j < n {
-        cursor[to + j] = ring[from + j];
+        image[to + j] = ring[from + j];
         j += 1;
     }
 }
 
-// The words from place p of the ring on, count of them, into the first words of the cursor image: up to the ring's end, and from its begin on.
-fn copy_words(ring: &[u32], lo: usize, hi: usize, p: usize, count: usize, cursor: &mut [u32])
-    requires { ⌜ (lo ≤ p) × (p < hi) × (count + lo ≤ hi) × (hi ≤ length (now ring)) × (count ≤ length (now cursor)) ⌝ }
-    ensures { λ _. ⌜ now (cursor .exit) ≡ words (now (ring .entry)) lo hi p count ++ drop count (now (cursor .entry)) ⌝ }
+// The words from place p of the ring on, count of them, into an image from word to on: up to the ring's end, and from its begin on.
+fn copy_words(
+    ring: &[u32],
+    lo: usize,
+    hi: usize,
+    p: usize,
+    count: usize,
+    image: &mut [u32],
+    to: usize,
+)
+    requires { ⌜ (lo ≤ p) × (p < hi) × (count + lo ≤ hi) × (hi ≤ length (now ring)) × (to + count ≤ length (now image)) ⌝ }
+    ensures { λ _. ⌜ now (image .exit) ≡ paste (now (image .entry)) to (words (now (ring .entry)) lo hi p count) count ⌝ }
 {
     let first = hi - p;
     if count <= first {
-        copy_span(ring, p, cursor, 0, count);
+        copy_span(ring, p, image, to, count);
         return;
     }
-    copy_span(ring, p, cursor, 0, first);
-    copy_span(ring, lo, cursor, first, count - first);
+    copy_span(ring, p, image, to, first);
+    copy_span(ring, lo, image, to + first, count - first);
 }
 
 // A cursor's pixels, which follow the six words of its head, into the first words of the cursor image.
@@ -216,10 +128,10 @@ fn copy_pixels(ring: &[u32], v: View, count: usize, cursor: &mut [u32])
     let hi = v.hi;
     let p = v.at + 6;
     if p < hi {
-        copy_words(ring, lo, hi, p, count, cursor);
+        copy_words(ring, lo, hi, p, count, cursor, 0);
         return;
     }
-    copy_words(ring, lo, hi, p - (hi - lo), count, cursor);
+    copy_words(ring, lo, hi, p - (hi - lo), count, cursor, 0);
 }
 
 // The cursor image's part of an action.
@@ -241,7 +153,7 @@ fn bring_cursor(action: Action, ring: &[u32], v: View, cursor: &mut [u32])
 
 // A view behind its first size words.
 fn pass(v: View, size: usize) -> View
-    requires { ⌜ (v .lo ≤ v .at) × (v .at < v .hi) × (size ≤ v .n) × (v .n + v .lo ≤ v .hi) × (v .hi ≤ 524288) ⌝ }
+    requires { ⌜ (v .lo ≤ v .at) × (v .at < v .hi) × (size ≤ v .n) × (v .n + v .lo < v .hi) × (v .hi ≤ 524288) ⌝ }
     ensures { λ r. ⌜ r ≡ passedIn v size ⌝ }
 {
     let lo = v.lo;
@@ -271,81 +183,236 @@ fn place_of(v: View) -> Ring
     }
 }
 
-// ---- plain commands, one after the other
+// ---- commands in a row of words
 
-// Whether the next eight words wait in a row.
-fn is_near(v: View) -> bool
-    requires { ⌜ v .at < v .hi ⌝ }
-    ensures { λ r. ⌜ r ≡ near v ⌝ }
-{
-    let n = v.n;
-    let hi = v.hi;
-    let at = v.at;
-    if n < 8 {
-        return false;
-    }
-    8 <= hi - at
+// Why commands in a row came to an end: the budget is spent, too few words are left in the row, a fault, a command with data behind its head.
+enum Pause {
+    Spent,
+    Short,
+    Faults(Cause),
+    Long(Data),
 }
 
-// Where plain commands ended: the view behind them, the last fence, their number, and what is known of the next command.
+// Where they ended: at which word, with which fence, with how much of the budget left, and why.
 struct Paused {
-    view: View,
+    at: usize,
     fence: u32,
-    count: u32,
-    next: Next,
+    left: u32,
+    why: Pause,
 }
 
-// Plain commands whose heads do not wrap, as many as follow one another. They need the fence and the screen alone, so that all else stays out of this loop.
-fn plain_turns(
-    view: View,
+// Commands that lie whole in a row of words, from word from up to word end, one after the other. Nothing but what they need stays in this loop.
+fn row_turns(
+    from: usize,
+    end: usize,
     before: u32,
     budget: u32,
-    ring: &mut [u32],
+    memory: &mut [u32],
     framebuffer: &[u32],
     screen: &mut [u32],
     width: u32,
     rows: u32,
 ) -> Paused
-    requires { ⌜ InView view (length (now ring)) ⌝ }
-    requires { ⌜ (4 ≤ view .lo) × (view .hi ≤ 524288) ⌝ }
-    ensures { λ r. ⌜ PlainRun (scene width rows (now (framebuffer .entry))) budget view (now (ring .entry)) before (now (screen .entry)) r (now (ring .exit)) (now (screen .exit)) ⌝ }
+    requires { ⌜ (4 ≤ from) × (from ≤ end) × (end ≤ length (now memory)) × (end ≤ 524288) ⌝ }
+    ensures { λ r. ⌜ RowRun (scene width rows (now (framebuffer .entry))) budget (now (memory .entry)) from end before (now (screen .entry))
+        r (now (memory .exit)) (now (screen .exit)) ⌝ }
 {
-    let mut v = view;
+    let mut at = from;
     let mut fence = before;
-    let mut count = 0;
-    while count < budget {
-        let near = is_near(v);
-        if !near {
-            return Paused {
-                view: v,
-                fence,
-                count,
-                next: Next::Unread,
-            };
+    let mut left = budget;
+    while 0 < left {
+        let step = command::step_in(&memory[at..end]);
+        match step {
+            Step::Does(action, size) => {
+                effect::draw(action, framebuffer, screen, width, rows);
+                fence = effect::fence_after(action, fence);
+                at += size;
+                stamp(memory, at);
+                left -= 1;
+            }
+            Step::Short => {
+                return Paused {
+                    at,
+                    fence,
+                    left,
+                    why: Pause::Short,
+                };
+            }
+            Step::Faults(cause) => {
+                return Paused {
+                    at,
+                    fence,
+                    left,
+                    why: Pause::Faults(cause),
+                };
+            }
+            Step::Long(tail) => {
+                return Paused {
+                    at,
+                    fence,
+                    left,
+                    why: Pause::Long(tail),
+                };
+            }
         }
-        let at = v.at;
-        let h = fetch_near(ring, at);
-        let kind = command::kind_of(h.number);
-        let size = command::plain_size(kind);
-        if size == 0 {
-            return Paused {
-                view: v,
-                fence,
-                count,
-                next: Next::Read(h),
-            };
-        }
-        effect::draw(kind, h, framebuffer, screen, width, rows);
-        fence = effect::fence_after(kind, h, fence);
-        v = pass(v, size);
-        ring[3] = (v.at * 4) as u32;
-        count += 1;
     }
     Paused {
-        view: v,
+        at,
         fence,
-        count,
-        next: Next::Unread,
+        left,
+        why: Pause::Spent,
+    }
+}
+
+// Where the words of a view end that lie in a row.
+fn row_end(v: View) -> usize
+    requires { ⌜ (v .at < v .hi) × (v .n + v .lo < v .hi) × (v .hi ≤ 524288) ⌝ }
+    ensures { λ r. ⌜ r ≡ rowEnd v ⌝ }
+{
+    let past = v.at + v.n;
+    let hi = v.hi;
+    if past < hi {
+        return past;
+    }
+    hi - 1
+}
+
+// ---- one turn
+
+// Whether a run goes on after a turn.
+enum Stop {
+    Goes,
+    Stops(End),
+}
+
+// What a turn gives beside the lent memories.
+struct Turned {
+    stop: Stop,
+    view: View,
+    marks: Marks,
+}
+
+// A turn that ends changes nothing.
+fn stopped(v: View, marks: Marks, end: End) -> Turned
+    ensures { λ r. ⌜ r ≡ record { stop = Stops end; view = v; marks = marks } ⌝ }
+{
+    Turned {
+        stop: Stop::Stops(end),
+        view: v,
+        marks,
+    }
+}
+
+// A turn on a command with data behind its head, of which the first ten words are lent in a row.
+fn data_turn(
+    v: View,
+    marks: Marks,
+    tail: Data,
+    head: &[u32],
+    ring: &mut [u32],
+    cursor: &mut [u32],
+) -> Turned
+    requires { ⌜ Stands v (now ring) (now cursor) ⌝ }
+    requires { ⌜ (1 ≤ v .n) × (now head ≡ take 10 (wordsIn (now ring) v)) × (kindIn (wordsIn (now ring) v) ≡ kindWith tail) ⌝ }
+    ensures { λ r. ⌜ DataTurned v marks (now (ring .entry)) (now (cursor .entry)) r (now (ring .exit)) (now (cursor .exit)) ⌝ }
+{
+    let n = v.n;
+    let lo = v.lo;
+    let hi = v.hi;
+    let carries = hi - lo - 1;
+    let finding = command::data_turn(tail, head, n as u64, carries as u64);
+    match finding {
+        Finding::Ends(end) => {
+            return stopped(v, marks, end);
+        }
+        Finding::Executes(action, size) => {
+            bring_cursor(action, ring, v, cursor);
+            let to = pass(v, size as usize);
+            let at = to.at;
+            stamp(ring, at);
+            return Turned {
+                stop: Stop::Goes,
+                view: to,
+                marks: effect::mark(marks, action),
+            };
+        }
+    }
+}
+
+// The first ten words of a view, or all of them where fewer wait, in a row from word 4 of a line on; where they end there.
+fn fill_line(ring: &[u32], v: View, line: &mut [u32]) -> usize
+    requires { ⌜ InView v (length (now ring)) ⌝ }
+    requires { ⌜ length (now line) ≡ 14 ⌝ }
+    ensures { λ r. ⌜ LineOf (wordsIn (now (ring .entry)) v) (now (line .exit)) r ⌝ }
+{
+    let n = v.n;
+    let lo = v.lo;
+    let hi = v.hi;
+    let at = v.at;
+    if n < 10 {
+        copy_words(ring, lo, hi, at, n, line, 4);
+        return n + 4;
+    }
+    copy_words(ring, lo, hi, at, 10, line, 4);
+    14
+}
+
+// One turn, wherever its words lie: they go through the same loop, as a line of ten words with a budget of 1.
+fn one_turn(
+    v: View,
+    marks: Marks,
+    ring: &mut [u32],
+    framebuffer: &[u32],
+    screen: &mut [u32],
+    cursor: &mut [u32],
+    width: u32,
+    rows: u32,
+) -> Turned
+    requires { ⌜ Stands v (now ring) (now cursor) ⌝ }
+    ensures { λ r. ⌜ after r (now (ring .exit)) (now (screen .exit)) (now (cursor .exit))
+        ≡ turned (scene width rows (now (framebuffer .entry))) v (now (ring .entry)) (machine marks (now (screen .entry)) (now (cursor .entry))) ⌝ }
+{
+    let n = v.n;
+    if n == 0 {
+        return stopped(v, marks, End::Drained);
+    }
+    let mut line = [0u32; 14];
+    let end = fill_line(ring, v, &mut line);
+    let p = row_turns(
+        4,
+        end,
+        marks.fence,
+        1,
+        &mut line,
+        framebuffer,
+        screen,
+        width,
+        rows,
+    );
+    let why = p.why;
+    match why {
+        Pause::Spent => {
+            let to = pass(v, p.at - 4);
+            let at = to.at;
+            stamp(ring, at);
+            return Turned {
+                stop: Stop::Goes,
+                view: to,
+                marks: Marks {
+                    fence: p.fence,
+                    ..marks
+                },
+            };
+        }
+        Pause::Short => {
+            return stopped(v, marks, End::Waiting);
+        }
+        Pause::Faults(cause) => {
+            return stopped(v, marks, End::Fault(cause));
+        }
+        Pause::Long(tail) => {
+            return data_turn(v, marks, tail, &line[4..end], ring, cursor);
+        }
     }
 }
 
@@ -364,7 +431,7 @@ fn ran_to(v: View, answer: Answer, count: u32, marks: Marks) -> Ran
     }
 }
 
-// Turns at the words of a view, until the budget is used up or one of them ends the run.
+// Turns at the words of a view, until the budget is used up or one of them ends the run: those in a row, then one that does not lie in it, and so on.
 fn turns(
     view: View,
     before: Marks,
@@ -376,46 +443,48 @@ fn turns(
     width: u32,
     rows: u32,
 ) -> Ran
-    requires { ⌜ InView view (length (now ring)) ⌝ }
-    requires { ⌜ (4 ≤ view .lo) × (view .hi ≤ 524288) ⌝ }
-    requires { ⌜ length (now cursor) ≡ 4096 ⌝ }
-    ensures { λ r. ⌜ outcome r (now (ring .exit)) (now (screen .exit)) (now (cursor .exit)) ≡ runWords (turnOf (carried (view .lo) (view .hi)) (table (scene width rows (now (framebuffer .entry))))) (placeOf view) budget (now (ring .entry)) (wordsIn (now (ring .entry)) view) (machine before (now (screen .entry)) (now (cursor .entry))) ⌝ }
+    requires { ⌜ Stands view (now ring) (now cursor) ⌝ }
+    ensures { λ r. ⌜ outcome r (now (ring .exit)) (now (screen .exit)) (now (cursor .exit))
+        ≡ runWords (turnOf (carried (view .lo) (view .hi)) (table (scene width rows (now (framebuffer .entry))))) (placeOf view) budget
+        (now (ring .entry)) (wordsIn (now (ring .entry)) view) (machine before (now (screen .entry)) (now (cursor .entry))) ⌝ }
 {
     let mut v = view;
     let mut marks = before;
-    let mut next = Next::Unread;
-    let mut count = 0;
-    while count < budget {
-        let turn = turn_at(ring, v, next);
-        match turn {
-            Turn::Ends(end) => {
-                return ran_to(v, Answer::Ended(end), count, marks);
-            }
-            Turn::Executes(action, size) => {
-                bring_cursor(action, ring, v, cursor);
-                effect::paint(action, framebuffer, screen, width, rows);
-                marks = effect::mark(marks, action);
-                v = pass(v, size as usize);
-                ring[3] = (v.at * 4) as u32;
-                count += 1;
-                let p = plain_turns(
-                    v,
-                    marks.fence,
-                    budget - count,
-                    ring,
-                    framebuffer,
-                    screen,
-                    width,
-                    rows,
-                );
-                v = p.view;
-                marks.fence = p.fence;
-                next = p.next;
-                count += p.count;
+    let mut left = budget;
+    while 0 < left {
+        let from = v.at;
+        let end = row_end(v);
+        let p = row_turns(
+            from,
+            end,
+            marks.fence,
+            left,
+            ring,
+            framebuffer,
+            screen,
+            width,
+            rows,
+        );
+        v = pass(v, p.at - from);
+        marks.fence = p.fence;
+        left = p.left;
+        if 0 < left {
+            let t = one_turn(v, marks, ring, framebuffer, screen, cursor, width, rows);
+            let stop = t.stop;
+            match stop {
+                Stop::Goes => {
+                    v = t.view;
+                    let m = t.marks;
+                    marks = m;
+                    left -= 1;
+                }
+                Stop::Stops(end) => {
+                    return ran_to(v, Answer::Ended(end), budget - left, marks);
+                }
             }
         }
     }
-    ran_to(v, Answer::Spent, count, marks)
+    ran_to(v, Answer::Spent, budget, marks)
 }
 
 // Whether the remembered ring lies in the ring memory and the cursor image is one.
@@ -424,6 +493,9 @@ fn is_fitting(at: Ring, words: usize, image: usize) -> bool
 {
     let there = ring::is_placed(at, words);
     if !there {
+        return false;
+    }
+    if 524288 < at.max {
         return false;
     }
     image == 4096
@@ -452,7 +524,8 @@ pub fn run(
     width: u32,
     rows: u32,
 ) -> Ran
-    ensures { λ r. ⌜ outcome r (now (ring .exit)) (now (screen .exit)) (now (cursor .exit)) ≡ runIn (scene width rows (now (framebuffer .entry))) at budget (now (ring .entry)) (machine marks (now (screen .entry)) (now (cursor .entry))) ⌝ }
+    ensures { λ r. ⌜ outcome r (now (ring .exit)) (now (screen .exit)) (now (cursor .exit))
+        ≡ runIn (scene width rows (now (framebuffer .entry))) at budget (now (ring .entry)) (machine marks (now (screen .entry)) (now (cursor .entry))) ⌝ }
 {
     let fits = is_fitting(at, ring.len(), cursor.len());
     if !fits {

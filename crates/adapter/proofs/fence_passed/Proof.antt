@@ -12,4 +12,4 @@ fence-passed-spec =
     tie.close
     (tie.spec
     (λ c κs. search needs)
-    (λ c. let a = c .before .args in let e : c .wrapping-sub-u32 .result ≡ (a .d .fence + 2 ^ 32 - a .number) % 2 ^ 32 = omega arith in rw e))
+    (λ c. let a = c .before .before .args in let e : c .wrapping-sub-u32 .result ≡ (a .d .marks .fence + 2 ^ 32 - a .number) % 2 ^ 32 = omega arith in rw e))

@@ -1,17 +1,36 @@
 -- `capi::passed_value` meets its contract.
 -- Assumes nothing.
 use borrow.Author.Needs.{needs}
+use mathlib.Core.Path.{_≡_, sym, _∙_}
+use mathlib.Core.Bool.{true}
+use borrow.Author.Tests.{not-true, not-false}
+use Rattle.device.specs.Device.{made}
+use Rattle.capi.specs.Calls.{passedHeld}
 use Rattle.capi.proofs.passed_value.Statement.{statement}
 use Rattle.capi.proofs.passed_value.Tie as tie
 
+is-made : (c : tie.Else1) → made (c .before .before .args .d) ≡ true
+is-made c = sym (c .before .is-made .ensures) ∙ not-false _ (c .if1 .left)
+
 returns : tie.Need-returns
-returns c = rw (c .pack .ensures, ← (c .before .before .fence-passed .ensures), c .before .if1 .taken)
+unfolding passedHeld
+returns c = rw (sym (c .before .before .is-made .ensures) ∙ not-true _ (c .before .if1 .taken), c .pack .ensures)
 
 returns-2 : tie.Need-returns-2
-returns-2 c = rw (c .pack2 .ensures, ← (c .before .before .fence-passed .ensures), c .before .if1 .left)
+unfolding passedHeld
+returns-2 c =
+    let p = c .before .before in
+    rw (is-made (p .before), c .pack2 .ensures, ← (p .fence-passed .ensures), c .before .if2 .taken)
+
+returns-3 : tie.Need-returns-3
+unfolding passedHeld
+returns-3 c =
+    let p = c .before .before in
+    rw (is-made (p .before), c .pack3 .ensures, ← (p .fence-passed .ensures), c .before .if2 .left)
 
 pub passed-value-spec : {M : Type 1} → statement M
 passed-value-spec =
     tie.close
     (tie.spec
-    (λ c κs. search needs) (λ c κs. search needs) returns (λ c κs. search needs) returns-2)
+    (λ c κs. search needs) (λ c κs. search needs) returns (λ c κs. search needs) (λ c κs. search needs) returns-2
+    (λ c κs. search needs) returns-3)

@@ -13,7 +13,15 @@ returns c = rw (ne-eqb _ _ (c .if1 .taken))
 
 returns-2 : tie.Need-returns-2
 unfolding makeIn
-returns-2 c = rw (eq-eqb _ _ (c .before .before .before .before .before .before .before .before .if1 .left), ← (c .before .before .before .before .before .before .before .make .ensures), c .before .before .before .before .before .making .given .1, put-whole _ _ (c .before .before .before .before .before .before .before .before .if1 .left) _ (c .before .before .put-in .ensures))
+returns-2 c =
+    let put = c .before .before in
+    let make = put .before .before .before .before .before in
+    rw (
+      eq-eqb _ _ (make .before .if1 .left),
+      ← (make .make .ensures),
+      put .before .before .before .making .given .1,
+      put-whole _ _ (make .before .if1 .left) _ (put .put-in .ensures),
+    )
 
 returns-3 : tie.Need-returns-3
 unfolding makeIn

@@ -3,8 +3,15 @@
 use borrow.Author.Needs.{needs}
 use borrow.Author.Tests.{eq-eqb, ne-eqb}
 use Rattle.capi.specs.Calls.{offscreenIn}
+use Rattle.capi.proofs.Laws.{edges-in}
 use Rattle.capi.proofs.svga_offscreen.Statement.{statement}
 use Rattle.capi.proofs.svga_offscreen.Tie as tie
+
+abbrev start : tie.Else1 → tie.Start
+start c = c .before .before .before
+
+abbrev after-spelled : tie.After-put-edges → tie.After-spelled-in
+after-spelled c = c .before .before .before
 
 returns : tie.Need-returns
 unfolding offscreenIn
@@ -16,7 +23,19 @@ returns-2 c = rw (eq-eqb _ _ (c .before .if1 .left), ne-eqb _ _ (c .if2 .taken))
 
 returns-3 : tie.Need-returns-3
 unfolding offscreenIn
-returns-3 c = rw (eq-eqb _ _ (c .before .before .before .before .before .before .before .if1 .left), eq-eqb _ _ (c .before .before .before .before .before .before .if2 .left), ← (c .before .before .before .before .before .held-in .ensures), ← (c .before .before .before .before .edges-of .ensures), c .before .before .put-edges .ensures)
+returns-3 c =
+    let put = c .before .before in
+    let s = after-spelled put in
+    let else2 = s .before in
+    let else1 = else2 .before in
+    rw (
+      eq-eqb _ _ (else1 .if1 .left),
+      eq-eqb _ _ (else2 .if2 .left),
+      ← (edges-in (start else1 .args .device .now)),
+      ← (s .spelled-in .ensures),
+      ← (put .before .before .edges-of .ensures),
+      put .put-edges .ensures,
+    )
 
 pub svga-offscreen-spec : {M : Type 1} → statement M
 svga-offscreen-spec =

@@ -1,22 +1,32 @@
 -- `capi::svga_read` meets its contract.
 -- Assumes nothing.
 use borrow.Author.Needs.{needs}
-use borrow.Author.Tests.{eq-eqb, ne-eqb}
+use borrow.Author.Tests.{ne-eqb}
+use mathlib.Core.Path.{_≡_, sym, _∙_}
+use Rattle.device_words.specs.declared.Held.{Held}
 use Rattle.capi.specs.Calls.{readIn, readHeld}
+use Rattle.capi.proofs.Laws.{read-in}
 use Rattle.capi.proofs.svga_read.Statement.{statement}
 use Rattle.capi.proofs.svga_read.Tie as tie
 
+abbrev start : tie.After-spelled-in → tie.Start
+start c = c .before .before .before
+
+-- the call goes by what the words spell
+by-spelled : (c : tie.After-spelled-in) (h : Held) → c .spelled-in .result ≡ h → readHeld (start c .args .index) h ≡ readIn (start c .args .device .now) (start c .args .index)
+by-spelled c h e = read-in _ h (c .before .if1 .left) (sym e ∙ c .spelled-in .ensures) _
+
 returns : tie.Need-returns
-unfolding readIn readHeld
+unfolding readIn
 returns c = rw (ne-eqb _ _ (c .before .if1 .taken), c .pack .ensures)
 
 returns-2 : tie.Need-returns-2
-unfolding readIn readHeld
-returns-2 c = rw (eq-eqb _ _ (c .before .before .before .before .before .if1 .left), ← (c .before .before .before .before .held-in .ensures), c .before .before .held .given .1) (c .read-value .ensures)
+unfolding readHeld
+returns-2 c = rw (← (by-spelled (c .before .before .before .before) _ (c .before .before .spelled .given .1))) (c .read-value .ensures)
 
 returns-3 : tie.Need-returns-3
-unfolding readIn readHeld
-returns-3 c = rw (eq-eqb _ _ (c .before .before .before .before .if1 .left), ← (c .before .before .before .held-in .ensures), c .before .enum-told .given .1, c .pack2 .ensures)
+unfolding readHeld
+returns-3 c = rw (← (by-spelled (c .before .before .before) _ (c .before .enum-told .given .1)), c .pack2 .ensures)
 
 pub svga-read-spec : {M : Type 1} → statement M
 svga-read-spec =

@@ -1,23 +1,54 @@
 -- `capi::svga_run` meets its contract.
 -- Assumes nothing.
 use borrow.Author.Needs.{needs}
-use borrow.Author.Tests.{eq-eqb, ne-eqb}
+use borrow.Author.Tests.{ne-eqb}
+use mathlib.Core.Path.{_≡_, sym, _∙_}
+use Rattle.device_run.specs.Run.{lent}
+use Rattle.device_words.specs.declared.Held.{Held}
 use Rattle.capi.specs.Calls.{runIn, runHeld}
-use Rattle.capi.proofs.Laws.{put-whole}
+use Rattle.capi.proofs.Laws.{put-whole, run-in}
 use Rattle.capi.proofs.svga_run.Statement.{statement}
 use Rattle.capi.proofs.svga_run.Tie as tie
 
+abbrev else1 : tie.After-spelled-in → tie.Else1
+else1 c = c .before .before
+
+abbrev start : tie.After-spelled-in → tie.Start
+start c = else1 c .before .before .before .before .before .before
+
+abbrev after-spelled : tie.After-run → tie.After-spelled-in
+after-spelled c = c .before .before .before .before .before .before .before
+
+abbrev after-run : tie.After-put-in-arg → tie.After-run
+after-run c = c .before .before .before .before .before .before .before
+
+-- the call goes by what the words spell
+by-spelled : (c : tie.After-spelled-in) (h : Held) → c .spelled-in .result ≡ h → (let a = start c .args in
+    let l = lent (a .ring .now) (a .framebuffer .now) (a .screen .now) (a .cursor .now) in
+    runHeld (a .device .now) l (a .budget) h ≡ runIn (a .device .now) l (a .budget))
+by-spelled c h e = run-in _ h (else1 c .if1 .left) (sym e ∙ c .spelled-in .ensures) _ _
+
 returns : tie.Need-returns
-unfolding runIn runHeld
+unfolding runIn
 returns c = rw (ne-eqb _ _ (c .before .if1 .taken), c .pack .ensures)
 
 returns-2 : tie.Need-returns-2
-unfolding runIn runHeld
-returns-2 c = rw (eq-eqb _ _ (c .before .before .before .before .before .before .before .before .before .before .before .before .before .before .before .before .before .before .before .before .before .if1 .left), ← (c .before .before .before .before .before .before .before .before .before .before .before .before .before .before .before .before .before .before .before .held-in .ensures), c .before .before .before .before .before .before .before .before .before .before .before .before .before .before .before .before .before .held .given .1, ← (c .before .before .before .before .before .before .before .before .before .before .before .before .run .ensures), c .pack2 .ensures, c .before .run-number .ensures, put-whole _ _ (c .before .before .before .before .before .before .before .before .before .before .before .before .before .before .before .before .before .before .before .before .before .if1 .left) _ (c .before .before .before .before .put-in .ensures))
+unfolding runHeld
+returns-2 c =
+    let put = c .before .before .before .before in
+    let run = after-run (put .before) in
+    let s = after-spelled run in
+    rw (
+      ← (by-spelled s _ (run .before .before .before .before .before .spelled .given .1)),
+      ← (run .run .ensures),
+      c .pack2 .ensures,
+      c .before .run-number .ensures,
+      put-whole _ _ (else1 s .if1 .left) _ (put .put-in .ensures),
+    )
 
 returns-3 : tie.Need-returns-3
-unfolding runIn runHeld
-returns-3 c = rw (eq-eqb _ _ (c .before .before .before .before .before .if1 .left), ← (c .before .before .before .held-in .ensures), c .before .enum-told .given .1, c .pack3 .ensures)
+unfolding runHeld
+returns-3 c = rw (← (by-spelled (c .before .before .before) _ (c .before .enum-told .given .1)), c .pack3 .ensures)
 
 pub svga-run-spec : {M : Type 1} → statement M
 svga-run-spec =

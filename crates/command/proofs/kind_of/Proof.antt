@@ -1,12 +1,12 @@
 -- `command::kind_of` meets its contract.
 -- Assumes nothing.
 use borrow.Author.Tests.{ne-eqb}
-use Rattle.command.specs.Commands.{kindOf}
+use Rattle.command.specs.Commands.{entry, kindOf}
 use Rattle.command.proofs.kind_of.Statement.{statement}
 use Rattle.command.proofs.kind_of.Tie as tie
 
 pub kind-of-spec : {M : Type 1} → statement M
-unfolding kindOf
+unfolding entry kindOf
 kind-of-spec =
     tie.close
     (tie.spec

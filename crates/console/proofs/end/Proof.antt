@@ -5,17 +5,16 @@ use borrow.Author.Needs.{needs}
 use Rattle.console.proofs.end.Statement.{statement}
 use Rattle.console.proofs.end.Tie as tie
 
--- the places: the session is finished, and what was printed is written
-abbrev Start : tie.After-finish → tie.Start
-Start c = c .before .before .before .before .before .before .before .before .before .before .before .before
+abbrev at-finish : tie.After-write-out-arg → tie.After-finish
+at-finish c = c .before .before .before .before .before .before .before .before .before .before .before
 
-abbrev Finished : tie.After-write-out-arg → tie.After-finish
-Finished c = c .before .before .before .before .before .before .before .before .before .before .before
+abbrev start : tie.After-finish → tie.Start
+start c = c .before .before .before .before .before .before .before .before .before .before .before .before
 
 write-out-requires : tie.Need-write-out-requires
 write-out-requires c κs =
-    let finished = Finished c in
-    omega (arith, finished .finish .ensures .1 (Start finished .pre) .room, finished .finish .kept .1 .1 .1 .1 .1 .1 .0)
+    let finished = at-finish c .finish in
+    omega (arith, finished .ensures .1 (start (at-finish c) .pre) .room, finished .kept .1 .1 .1 .1 .1 .1 .0)
 
 pub end-spec : {M : Type 1} → statement M
 end-spec =

@@ -20,40 +20,39 @@ Inv-loop buffer₀ line₀ ring₀ framebuffer₀ screen₀ cursor₀ out₀ ses
 abbrev μ-loop : tie.MeasureT-loop
 μ-loop buffer₀ line₀ ring₀ framebuffer₀ screen₀ cursor₀ out₀ session₀ turns₀ buffer line ring framebuffer screen cursor out session turns = turns
 
--- the places: the start, a turn begins, and it is done
-abbrev Start : tie.After-slice-known7 Inv-loop μ-loop → tie.Start Inv-loop μ-loop
-Start c = c .before .before .before .before .before .before .before
+abbrev start : tie.After-slice-known7 Inv-loop μ-loop → tie.Start Inv-loop μ-loop
+start c = c .before .before .before .before .before .before .before
 
-abbrev At-loop : tie.After-turn-arg7 Inv-loop μ-loop → tie.At-loop Inv-loop μ-loop
-At-loop c = c .before .before .before .before .before .before .before .before
+abbrev in-loop : tie.After-turn-arg7 Inv-loop μ-loop → tie.In-loop Inv-loop μ-loop
+in-loop c = c .before .before .before .before .before .before .before
 
-abbrev Turned : tie.After-session Inv-loop μ-loop → tie.After-turn Inv-loop μ-loop
-Turned c = c .before .before .before .before .before .before .before .before .before .before .before .before .before .before .before
+abbrev at-turn : tie.After-session Inv-loop μ-loop → tie.After-turn Inv-loop μ-loop
+at-turn c = c .before .before .before .before .before .before .before .before .before .before .before .before .before .before .before
 
 loop-holds : tie.Need-loop-holds Inv-loop μ-loop
-loop-holds c = (Start c .pre, search needs)
+loop-holds c = (start c .pre, search needs)
 
 turn-requires : tie.Need-turn-requires Inv-loop μ-loop
 turn-requires c κs =
-    let inv = At-loop c .loop .inv in
+    let inv = in-loop c .before .loop .inv in
     let lengths = inv .1 in
     within-same (sym (lengths .0)) (sym (lengths .1 .0)) (sym (lengths .1 .1 .1 .1 .1 .1)) (inv .0)
 
 loop-again : tie.Need-loop-again Inv-loop μ-loop
 loop-again c =
-    let turned = Turned (c .before) in
-    let k = turned .turn .kept .1 in
-    let lengths = At-loop (turned .before) .loop .inv .1 in (
-      within-same (lengths .0) (lengths .1 .0) (lengths .1 .1 .1 .1 .1 .1) (turned .turn .ensures .1),
+    let turn = at-turn (c .before) in
+    let k = turn .turn .kept .1 in
+    let lengths = in-loop (turn .before) .before .loop .inv .1 in (
+      within-same (lengths .0) (lengths .1 .0) (lengths .1 .1 .1 .1 .1 .1) (turn .turn .ensures .1),
       (k .0 ∙ lengths .0, (k .1 .0 ∙ lengths .1 .0, (k .1 .1 .0 ∙ lengths .1 .1 .0, (k .1 .1 .1 .0 ∙ lengths .1 .1 .1 .0, (k .1 .1 .1 .1 .0 ∙ lengths .1 .1 .1 .1 .0, (k .1 .1 .1 .1 .1 .0 ∙ lengths .1 .1 .1 .1 .1 .0, k .1 .1 .1 .1 .1 .1 .0 ∙ lengths .1 .1 .1 .1 .1 .1)))))),
     )
 
 loop-again-2 : tie.Need-loop-again-2 Inv-loop μ-loop
 loop-again-2 c =
-    let turned = Turned (c .before) in
-    let k = turned .turn .kept .1 in
-    let lengths = At-loop (turned .before) .loop .inv .1 in (
-      within-same (lengths .0) (lengths .1 .0) (lengths .1 .1 .1 .1 .1 .1) (turned .turn .ensures .1),
+    let turn = at-turn (c .before) in
+    let k = turn .turn .kept .1 in
+    let lengths = in-loop (turn .before) .before .loop .inv .1 in (
+      within-same (lengths .0) (lengths .1 .0) (lengths .1 .1 .1 .1 .1 .1) (turn .turn .ensures .1),
       (k .0 ∙ lengths .0, (k .1 .0 ∙ lengths .1 .0, (k .1 .1 .0 ∙ lengths .1 .1 .0, (k .1 .1 .1 .0 ∙ lengths .1 .1 .1 .0, (k .1 .1 .1 .1 .0 ∙ lengths .1 .1 .1 .1 .0, (k .1 .1 .1 .1 .1 .0 ∙ lengths .1 .1 .1 .1 .1 .0, k .1 .1 .1 .1 .1 .1 .0 ∙ lengths .1 .1 .1 .1 .1 .1)))))),
     )
 

@@ -7,13 +7,28 @@ use Rattle.console_session.proofs.Holding.{line-answered, shown-short}
 use Rattle.console_session.proofs.answer_line.Statement.{statement}
 use Rattle.console_session.proofs.answer_line.Tie as tie
 
+abbrev at-print : tie.After-device → tie.After-print
+at-print c = c .before .before .before
+
+abbrev at-perform : tie.After-print → tie.After-perform
+at-perform c = c .before .before .before .before .before .before .before .before .before .before
+
+abbrev at-request : tie.After-perform → tie.After-request-of
+at-request c = c .before .before .before .before .before .before
+
+abbrev start : tie.After-request-of → tie.Start
+start c = c .before .before .before .before .before .before .before .before
+
 returns : tie.Need-returns
 returns c =
-    let print = c .before .before .before .print .ensures in
-    let a = c .before .before .before .before .before .before .before .before .before .before .before .before .before .before .before .before .before .before .before .before .before .before .before .before .before .before .before .args in
+    let print = at-print c .print .ensures in
+    let performed = at-perform (at-print c) in
+    let request = at-request performed in
+    let a = start request .args in
+    let pre = start request .pre in
     let short = shown-short _ _ _ _ _ _ print in (
-      line-answered _ (a .line .now) _ _ (a .s .held) _ _ _ _ (rw sub-zero at (c .before .before .before .before .before .before .before .before .before .before .before .before .before .before .before .before .before .before .before .request-of .ensures)) (c .before .before .before .before .before .before .before .before .before .before .before .before .before .perform .ensures) (omega (arith, c .before .before .before .before .before .before .before .before .before .before .before .before .before .before .before .before .before .before .before .before .before .before .before .before .before .before .before .pre .room)) print,
-      (record { whole = c .before .before .before .before .before .before .before .before .before .before .before .before .before .before .before .before .before .before .before .before .before .before .before .before .before .before .before .pre .whole; held = omega arith; room = omega (arith, c .before .before .before .before .before .before .before .before .before .before .before .before .before .before .before .before .before .before .before .before .before .before .before .before .before .before .before .pre .room) }, short),
+      line-answered _ (a .line .now) _ _ (a .s .held) _ _ _ _ (rw sub-zero at (request .request-of .ensures)) (performed .perform .ensures) (omega (arith, pre .room)) print,
+      (record { whole = pre .whole; held = omega arith; room = omega (arith, pre .room) }, short),
     )
 
 pub answer-line-spec : {M : Type 1} → statement M

@@ -10,13 +10,21 @@ use Rattle.console_session.proofs.feed.Tie as tie
 returns : tie.Need-returns
 returns c = (rw (← (c .before .room-for .ensures), not-true (c .before .room-for .result) (c .if1 .taken)), λ w. within-none w)
 
+abbrev has-room : tie.After-feed-bytes-arg6 → tie.Else1
+has-room c = c .before .before .before .before .before .before
+
 feed-bytes-requires : tie.Need-feed-bytes-requires
-feed-bytes-requires c κs = fits-within _ _ _ _ (sym (c .before .before .before .before .before .before .before .room-for .ensures) ∙ not-false (c .before .before .before .before .before .before .before .room-for .result) (c .before .before .before .before .before .before .if1 .left))
+feed-bytes-requires c κs =
+    let r = has-room c in fits-within _ _ _ _ (sym (r .before .room-for .ensures) ∙ not-false (r .before .room-for .result) (r .if1 .left))
+
+abbrev at-feed : tie.After-slice-known12 → tie.After-feed-bytes
+at-feed c = c .before .before .before .before .before .before .before .before .before .before .before .before
 
 returns-2 : tie.Need-returns-2
 returns-2 c =
-    let fed = c .before .before .before .before .before .before .before .before .before .before .before .before .feed-bytes .ensures in
-    (rw (← (c .before .before .before .before .before .before .before .before .before .before .before .before .before .before .before .before .before .before .before .before .room-for .ensures), not-false (c .before .before .before .before .before .before .before .before .before .before .before .before .before .before .before .before .before .before .before .before .room-for .result) (c .before .before .before .before .before .before .before .before .before .before .before .before .before .before .before .before .before .before .before .if1 .left)) (fed .0), λ w. fed .1)
+    let fed = at-feed c .feed-bytes .ensures in
+    let r = has-room (at-feed c .before) in
+    (rw (← (r .before .room-for .ensures), not-false (r .before .room-for .result) (r .if1 .left)) (fed .0), λ w. fed .1)
 
 pub feed-spec : {M : Type 1} → statement M
 feed-spec =

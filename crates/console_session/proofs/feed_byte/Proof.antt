@@ -6,10 +6,16 @@ use Rattle.console_session.specs.Session.{fed}
 use Rattle.console_session.proofs.feed_byte.Statement.{statement}
 use Rattle.console_session.proofs.feed_byte.Tie as tie
 
+abbrev at-answer : tie.After-slice-known11 → tie.After-answer-line
+at-answer c = c .before .before .before .before .before .before .before .before .before .before
+
+abbrev at-newline : tie.After-answer-line → tie.Then1
+at-newline c = c .before .before .before .before .before .before .before
+
 returns : tie.Need-returns
 unfolding fed
 returns c =
-    let e = c .before .before .before .before .before .before .before .before .before .before .answer-line .ensures in (rw (eq-eqb _ 10 (c .before .before .before .before .before .before .before .before .before .before .before .before .before .before .before .before .before .if1 .taken)) (e .0), (e .1 .0, e .1 .1))
+    let e = at-answer c .answer-line .ensures in (rw (eq-eqb _ 10 (at-newline (at-answer c) .if1 .taken)) (e .0), (e .1 .0, e .1 .1))
 
 returns-2 : tie.Need-returns-2
 unfolding fed

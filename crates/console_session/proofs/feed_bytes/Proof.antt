@@ -6,6 +6,7 @@ use native.Mathlib.Omega.{arith}
 use lib.ListN.{length, take}
 use lib.Seq.{take-all}
 use borrow.Author.Needs.{needs}
+use Rattle.device_run.specs.Run.{lent}
 use Rattle.console_session.specs.Session.{stateOf, fedAll}
 use Rattle.console_session.proofs.Feeding.{Feeding, fed-one}
 use Rattle.console_session.proofs.feed_bytes.Statement.{statement}
@@ -13,7 +14,7 @@ use Rattle.console_session.proofs.feed_bytes.Tie as tie
 
 abbrev Inv-loop : tie.InvT-loop
 Inv-loop chunk line₀ ring₀ framebuffer₀ screen₀ cursor₀ out₀ t₀ i₀ line ring framebuffer screen cursor out t i =
-    (stateOf t line ring framebuffer screen cursor out ≡ fedAll (stateOf t₀ line₀ ring₀ framebuffer₀ screen₀ cursor₀ out₀) (take i chunk))
+    (stateOf t line (lent ring framebuffer screen cursor) out ≡ fedAll (stateOf t₀ line₀ (lent ring₀ framebuffer₀ screen₀ cursor₀) out₀) (take i chunk))
     × (Feeding t₀ t i (length chunk)
     × ((length line ≡ length line₀)
     × ((length ring ≡ length ring₀)
@@ -23,29 +24,42 @@ Inv-loop chunk line₀ ring₀ framebuffer₀ screen₀ cursor₀ out₀ t₀ i�
 abbrev μ-loop : tie.MeasureT-loop
 μ-loop chunk line₀ ring₀ framebuffer₀ screen₀ cursor₀ out₀ t₀ i₀ line ring framebuffer screen cursor out t i = length chunk - i
 
+abbrev start : tie.At-loop Inv-loop μ-loop → tie.Start Inv-loop μ-loop
+start c = c .before .before .before .before .before .before .before .before
+
+-- the turn in which a byte is fed
+abbrev turn : tie.After-feed-byte-arg6 Inv-loop μ-loop → tie.In-loop Inv-loop μ-loop
+turn c = c .before .before .before .before .before .before .before
+
+abbrev at-feed : tie.After-slice-known12 Inv-loop μ-loop → tie.After-feed-byte Inv-loop μ-loop
+at-feed c = c .before .before .before .before .before .before .before .before .before .before .before .before
+
 loop-holds : tie.Need-loop-holds Inv-loop μ-loop
 unfolding fedAll
 loop-holds c = (refl, search needs)
 
 feed-byte-requires : tie.Need-feed-byte-requires Inv-loop μ-loop
 feed-byte-requires c κs =
-    let fed = c .before .before .before .before .before .before .before .before .loop .inv .1 in
-    record { whole = omega (arith, c .before .before .before .before .before .before .before .before .before .before .before .before .before .before .before .before .pre .whole); held = fed .0 .held; room = omega (arith, c .before .before .before .before .before .before .before .before .before .before .before .before .before .before .before .before .pre .room, fed .0 .printed, c .before .before .before .before .before .before .before .loop-test .taken) }
+    let fed = turn c .before .loop .inv .1 in
+    let pre = start (turn c .before) .pre in
+    record { whole = omega (arith, pre .whole); held = fed .0 .held; room = omega (arith, pre .room, fed .0 .printed, turn c .loop-test .taken) }
 
 add-i : tie.Need-add-i Inv-loop μ-loop
-add-i c = record { fits = omega (arith, c .before .before .before .before .before .before .before .before .before .before .before .before .before .before .before .before .before .before .before .before .loop-test .taken, c .before .before .before .before .before .before .before .before .before .before .before .before .before .before .before .before .before .before .before .before .before .before .before .before .before .before .before .before .before .good .1 .0) }
+add-i c =
+    let t = turn (at-feed c .before) in record { fits = omega (arith, t .loop-test .taken, start (t .before) .good .1 .0) }
 
 loop-again : tie.Need-loop-again Inv-loop μ-loop
 loop-again c =
-    let fed = c .before .before .before .before .before .before .before .before .before .before .before .before .feed-byte .ensures in
-    let so-far = c .before .before .before .before .before .before .before .before .before .before .before .before .before .before .before .before .before .before .before .before .before .loop .inv in
-    (rw (fed-one _ _ _ (c .before .before .before .before .before .before .before .before .before .before .before .before .before .before .before .before .before .before .before .before .loop-test .taken), ← (so-far .0)) (fed .0), search needs)
+    let fed = at-feed c .feed-byte .ensures in
+    let t = turn (at-feed c .before) in
+    (rw (fed-one _ _ _ (t .loop-test .taken), ← (t .before .loop .inv .0)) (fed .0), search needs)
 
 returns : tie.Need-returns Inv-loop μ-loop
 returns c =
-    let fed = c .before .loop .inv .1 .0 in (
+    let fed = c .before .loop .inv .1 .0 in
+    let pre = start (c .before) .pre in (
       rw (take-all _ _ (c .loop-test .left)) at (c .before .loop .inv .0),
-      record { whole = c .before .before .before .before .before .before .before .before .before .pre .whole; held = fed .held; room = omega (arith, c .before .before .before .before .before .before .before .before .before .pre .room, fed .printed, fed .turn) },
+      record { whole = pre .whole; held = fed .held; room = omega (arith, pre .room, fed .printed, fed .turn) },
     )
 
 pub feed-bytes-spec : {M : Type 1} → statement M

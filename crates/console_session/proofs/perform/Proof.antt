@@ -21,8 +21,11 @@ returns-4 : tie.Need-returns-4
 unfolding performed
 returns-4 c = rw (c .before .before .before .before .before .before .request4 .given .1, c .keeping3 .ensures, c .before .before .before .set-word .ensures)
 
+abbrev at-run : tie.After-slice-known9 → tie.After-run-device
+at-run c = c .before .before .before .before .before .before
+
 returns-5 : tie.Need-returns-5
-returns-5 c = rw (c .before .before .before .before .before .before .before .before .before .before .before .before .request5 .given .1) (c .before .before .before .before .before .before .run-device .ensures)
+returns-5 c = rw (at-run c .before .before .before .before .before .before .request5 .given .1) (at-run c .run-device .ensures)
 
 returns-6 : tie.Need-returns-6
 unfolding performed

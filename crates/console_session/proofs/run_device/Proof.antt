@@ -7,7 +7,7 @@ use Rattle.console_session.proofs.run_device.Tie as tie
 
 returns : tie.Need-returns
 unfolding performed
-returns c = rw (← (c .before .before .before .before .before .before .before .before .run .ensures), c .before .run-number .ensures)
+returns c = let ran = c .before .before .before .before .before .before .before .before .run .ensures in rw (← ran, c .before .run-number .ensures)
 
 pub run-device-spec : {M : Type 1} → statement M
 run-device-spec =

@@ -1,11 +1,29 @@
 -- `device::is_made` meets its contract.
 -- Assumes nothing.
 use borrow.Author.Needs.{needs}
-use mathlib.Core.Path.{sym, _∙_}
+use mathlib.Core.Path.{_≡_, sym, _∙_}
+use mathlib.Core.Bool.{true}
 use borrow.Author.Tests.{not-true, not-false}
-use Rattle.device.specs.Device.{made}
+use Rattle.device.specs.Device.{memoryOf, pixelsOf, widthOf, heightOf, sizesGood, modeGood, made}
 use Rattle.device.proofs.is_made.Statement.{statement}
 use Rattle.device.proofs.is_made.Tie as tie
+
+-- the places behind each test, and what it has shown there
+
+abbrev start : tie.Else1 → tie.Start
+start c = c .before .before .before
+
+sizes-good : (c : tie.Else1) → sizesGood (memoryOf (start c .args .d)) (pixelsOf (start c .args .d)) ≡ true
+sizes-good c = sym (c .before .sizes-good .ensures) ∙ not-false _ (c .if1 .left)
+
+abbrev else1 : tie.After-mode-good → tie.Else1
+else1 c = c .before .before
+
+mode-good : (c : tie.Else2) → (let d = start (else1 (c .before)) .args .d in modeGood (widthOf d) (heightOf d) ≡ true)
+mode-good c = sym (c .before .mode-good .ensures) ∙ not-false _ (c .if2 .left)
+
+abbrev else2 : tie.After-condition-good → tie.Else2
+else2 c = c .before
 
 pub is-made-spec : {M : Type 1} → statement M
 unfolding made
@@ -15,8 +33,14 @@ is-made-spec =
     (λ c κs. search needs)
     (λ c. rw (sym (c .before .sizes-good .ensures) ∙ not-true _ (c .if1 .taken)))
     (λ c κs. search needs)
-    (λ c. rw (sym (c .before .before .before .before .sizes-good .ensures) ∙ not-false _ (c .before .before .before .if1 .left), sym (c .before .mode-good .ensures) ∙ not-true _ (c .if2 .taken)))
+    (λ c. rw (sizes-good (else1 (c .before)), sym (c .before .mode-good .ensures) ∙ not-true _ (c .if2 .taken)))
     (λ c κs. search needs)
-    (λ c. rw (sym (c .before .before .before .before .before .before .sizes-good .ensures) ∙ not-false _ (c .before .before .before .before .before .if1 .left), sym (c .before .before .before .mode-good .ensures) ∙ not-false _ (c .before .before .if2 .left), sym (c .before .condition-good .ensures) ∙ not-true _ (c .if3 .taken)))
+    (λ c.
+    let mode = else2 (c .before) in
+    rw (sizes-good (else1 (mode .before)), mode-good mode, sym (c .before .condition-good .ensures) ∙ not-true _ (c .if3 .taken)))
     (λ c κs. search needs)
-    (λ c. rw (sym (c .before .before .before .before .before .before .before .sizes-good .ensures) ∙ not-false _ (c .before .before .before .before .before .before .if1 .left), sym (c .before .before .before .before .mode-good .ensures) ∙ not-false _ (c .before .before .before .if2 .left), sym (c .before .before .condition-good .ensures) ∙ not-false _ (c .before .if3 .left)) (c .defined-good .ensures)))
+    (λ c.
+    let good = c .before .before in
+    let mode = else2 (good .before) in
+    rw (sizes-good (else1 (mode .before)), mode-good mode, sym (good .before .condition-good .ensures) ∙ not-false _ (good .if3 .left))
+    (c .defined-good .ensures)))

@@ -1,45 +1,171 @@
 -- `device_run::run` meets its contract.
 -- Assumes nothing.
-use mathlib.Core.Path.{sym, _∙_}
+use mathlib.Core.Path.{_≡_, sym, _∙_}
+use mathlib.Core.Bool.{true}
 use native.Mathlib.Omega.{arith}
 use borrow.Author.Needs.{needs}
 use borrow.Author.Tests.{not-true, not-false, lt-leb, le-leb}
-use Rattle.device_run.specs.Run.{runBy, runOf}
-use Rattle.device.proofs.Laws.{well-formed, mode-fits}
+use Rattle.device.specs.declared.Condition.{Condition}
+use Rattle.device.specs.declared.Device.{Device}
+use Rattle.device.specs.Device.{made}
+use Rattle.device_run.specs.Run.{Lent, lent, lentGood, runBy, runOf}
 use Rattle.device_run.proofs.RunLaws.{run-by}
 use Rattle.device_run.proofs.run.Statement.{statement}
 use Rattle.device_run.proofs.run.Tie as tie
 
+-- ---- the places behind each test
+
+abbrev start : tie.After-is-made → tie.Start
+start c = c .before .before .before .before .before
+
+abbrev past-made : tie.After-lent-good → tie.Else1
+past-made c = c .before .before .before .before
+
+abbrev past-lent : tie.After-struct-known → tie.Else2
+past-lent c = c .before .before
+
+abbrev past-config : tie.After-struct-known2 → tie.Else3
+past-config c = c .before
+
+abbrev past-enable : tie.After-mode-fits → tie.Else4
+past-enable c = c .before
+
+-- ---- what each test has shown of the device and the lent memories
+
+abbrev device : tie.Else1 → Device
+device c = start (c .before) .args .d
+
+abbrev memories : tie.Else1 → Lent
+memories c = let a = start (c .before) .args in lent (a .ring .now) (a .framebuffer .now) (a .screen .now) (a .cursor .now)
+
+good : (c : tie.Else1) → made (device c) ≡ true
+good c = sym (c .before .is-made .ensures) ∙ not-false _ (c .if1 .left)
+
+right : (c : tie.Else2) → let b = past-made (c .before) in lentGood (device b) (memories b) ≡ true
+right c = sym (c .before .lent-good .ensures) ∙ not-false _ (c .if2 .left)
+
+configured : (c : tie.Else3) → device (past-made (past-lent (c .before) .before)) .registers .config ≡ true
+configured c = not-false (device (past-made (past-lent (c .before) .before)) .registers .config) (c .if3 .left)
+
+enabled : (c : tie.Else4) → device (past-made (past-lent (past-config (c .before) .before) .before)) .registers .enable ≡ true
+enabled c = not-false (device (past-made (past-lent (past-config (c .before) .before) .before)) .registers .enable) (c .if4 .left)
+
+module _ (c : tie.Else5) where
+  abbrev at-4 : tie.Else4
+  at-4 = past-enable (c .before)
+
+  abbrev at-3 : tie.Else3
+  at-3 = past-config (at-4 .before)
+
+  abbrev at-2 : tie.Else2
+  at-2 = past-lent (at-3 .before)
+
+  abbrev at-1 : tie.Else1
+  at-1 = past-made (at-2 .before)
+
+  by-condition : (k : Condition) → device at-1 .condition ≡ k
+      → let b = start (at-1 .before) .args .budget in runOf (device at-1) (memories at-1) b ≡ runBy (device at-1) (memories at-1) b k
+  by-condition k e =
+      run-by (device at-1) (memories at-1) _ k (good at-1) (right at-2) (configured at-3) (enabled at-4) (sym (c .before .mode-fits .ensures) ∙ not-false _ (c .if5 .left)) e
+
+-- ---- the returns
+
+returns : tie.Need-returns
+unfolding runOf
+returns c = rw (c .refused .ensures, sym (c .before .before .is-made .ensures) ∙ not-true _ (c .before .if1 .taken))
+
+returns-2 : tie.Need-returns-2
+unfolding runOf
+returns-2 c =
+    let b = c .before .before in
+    rw (c .refused2 .ensures, good (past-made b), sym (b .lent-good .ensures) ∙ not-true _ (c .before .if2 .taken))
+
+returns-3 : tie.Need-returns-3
+unfolding runOf
+returns-3 c =
+    let b = past-lent (c .before .before) in
+    let a = past-made (b .before) in
+    rw (c .refused3 .ensures, good a, right b, not-true (device a .registers .config) (c .before .if3 .taken))
+
+returns-4 : tie.Need-returns-4
+unfolding runOf
+returns-4 c =
+    let d = past-config (c .before .before) in
+    let b = past-lent (d .before) in
+    let a = past-made (b .before) in
+    rw (c .refused4 .ensures, good a, right b, configured d, not-true (device a .registers .enable) (c .before .if4 .taken))
+
+returns-5 : tie.Need-returns-5
+unfolding runOf
+returns-5 c =
+    let f = c .before .before in
+    let e = past-enable f in
+    let d = past-config (e .before) in
+    let b = past-lent (d .before) in
+    rw (c .refused5 .ensures, good (past-made (b .before)), right b, configured d, enabled e, sym (f .mode-fits .ensures) ∙ not-true _ (c .before .if5 .taken))
+
+returns-6 : tie.Need-returns-6
+unfolding runBy
+returns-6 c = rw (c .refused6 .ensures) (sym (by-condition (c .before .before .before) _ (c .before .enum-told .given .1)))
+
+abbrev at-run : tie.After-slice-known6 → tie.After-run-ring
+at-run c = c .before .before .before .before .before .before
+
+abbrev at-ring : tie.After-run-ring → tie.After-condition
+at-ring c = c .before .before .before .before .before
+
+returns-7 : tie.Need-returns-7
+returns-7 c =
+    let b = at-ring (at-run c) in at-run c .run-ring .ensures ∙ sym (by-condition (b .before .before) _ (b .condition .given .1))
+
+returns-8 : tie.Need-returns-8
+unfolding runBy
+returns-8 c = rw (c .refused7 .ensures) (sym (by-condition (c .before .before .before) _ (c .before .enum-told2 .given .1)))
+
 pub run-spec : {M : Type 1} → statement M
-unfolding runOf runBy
 run-spec =
     tie.close
     (tie.spec
     (λ c κs. search needs)
     (λ c κs. search needs)
-    (λ c. rw (c .refused .ensures, sym (c .before .before .is-made .ensures) ∙ not-true _ (c .before .if1 .taken)))
+    returns
     (λ c κs. search needs)
     (λ c κs. search needs)
-    (λ c. rw (c .refused2 .ensures, sym (c .before .before .before .before .is-made .ensures) ∙ not-false _ (c .before .before .before .if1 .left), sym (c .before .before .lent-good .ensures) ∙ not-true _ (c .before .if2 .taken)))
-    (λ c κs. search needs)
-    (λ c. let a = c .before .before .before .before .before .before .before .before .before .before .before .before .args in rw (c .refused3 .ensures, sym (c .before .before .before .before .before .before .before .is-made .ensures) ∙ not-false _ (c .before .before .before .before .before .before .if1 .left), sym (c .before .before .before .before .before .lent-good .ensures) ∙ not-false _ (c .before .before .before .before .if2 .left), not-true (a .d .registers .config) (c .before .if3 .taken)))
-    (λ c κs. search needs)
-    (λ c. let a = c .before .before .before .before .before .before .before .before .before .before .before .before .before .before .args in rw (c .refused4 .ensures, sym (c .before .before .before .before .before .before .before .before .before .is-made .ensures) ∙ not-false _ (c .before .before .before .before .before .before .before .before .if1 .left), sym (c .before .before .before .before .before .before .before .lent-good .ensures) ∙ not-false _ (c .before .before .before .before .before .before .if2 .left), not-false (a .d .registers .config) (c .before .before .before .if3 .left), not-true (a .d .registers .enable) (c .before .if4 .taken)))
     (λ c. search needs)
     (λ c. search needs)
     (λ c. search needs)
-    (λ c. omega (arith, mode-fits _ (well-formed _ (sym (c .before .before .before .before .before .before .before .before .before .before .before .before .is-made .ensures) ∙ not-false _ (c .before .before .before .before .before .before .before .before .before .before .before .if1 .left)))))
-    (λ c κs. search needs)
-    (λ c. let a = c .before .before .before .before .before .before .before .before .before .before .before .before .before .before .before .before .before .before .before .args in rw (c .refused5 .ensures, sym (c .before .before .before .before .before .before .before .before .before .before .before .before .before .before .is-made .ensures) ∙ not-false _ (c .before .before .before .before .before .before .before .before .before .before .before .before .before .if1 .left), sym (c .before .before .before .before .before .before .before .before .before .before .before .before .lent-good .ensures) ∙ not-false _ (c .before .before .before .before .before .before .before .before .before .before .before .if2 .left), not-false (a .d .registers .config) (c .before .before .before .before .before .before .before .before .if3 .left), not-false (a .d .registers .enable) (c .before .before .before .before .before .before .if4 .left), lt-leb _ _ (c .before .if5 .taken)))
-    (λ c. search needs)
+    returns-2
     (λ c κs. search needs)
     (λ c. search needs)
+    (λ c. search needs)
+    (λ c. search needs)
+    returns-3
+    (λ c κs. search needs)
+    (λ c. search needs)
+    (λ c. search needs)
+    (λ c. search needs)
+    returns-4
+    (λ c κs. search needs)
+    (λ c κs. search needs)
+    (λ c. search needs)
+    (λ c. search needs)
+    (λ c. search needs)
+    returns-5
+    (λ c. search needs)
     (λ c κs. search needs)
     (λ c. search needs)
     (λ c κs. search needs)
-    (λ c. let a = c .before .before .before .before .before .before .before .before .before .before .before .before .before .before .before .before .before .before .before .before .before .args in rw (c .refused6 .ensures) (sym (run-by _ _ (a .framebuffer .now) _ _ (a .budget) _ (sym (c .before .before .before .before .before .before .before .before .before .before .before .before .before .before .before .before .is-made .ensures) ∙ not-false _ (c .before .before .before .before .before .before .before .before .before .before .before .before .before .before .before .if1 .left)) (sym (c .before .before .before .before .before .before .before .before .before .before .before .before .before .before .lent-good .ensures) ∙ not-false _ (c .before .before .before .before .before .before .before .before .before .before .before .before .before .if2 .left)) (not-false (a .d .registers .config) (c .before .before .before .before .before .before .before .before .before .before .if3 .left)) (not-false (a .d .registers .enable) (c .before .before .before .before .before .before .before .before .if4 .left)) (le-leb _ _ (c .before .before .before .if5 .left)) (c .before .enum-told .given .1))))
+    (λ c. search needs)
+    (λ c κs. search needs)
     (λ c. search needs)
     (λ c. search needs)
     (λ c. search needs)
-    (λ c. let a = c .before .before .before .before .before .before .before .before .before .before .before .before .before .before .before .before .before .before .before .before .before .before .before .before .before .before .before .before .before .before .before .args in c .before .before .before .before .before .before .run-ring .ensures ∙ sym (run-by _ _ (a .framebuffer .now) _ _ (a .budget) _ (sym (c .before .before .before .before .before .before .before .before .before .before .before .before .before .before .before .before .before .before .before .before .before .before .before .before .before .before .is-made .ensures) ∙ not-false _ (c .before .before .before .before .before .before .before .before .before .before .before .before .before .before .before .before .before .before .before .before .before .before .before .before .before .if1 .left)) (sym (c .before .before .before .before .before .before .before .before .before .before .before .before .before .before .before .before .before .before .before .before .before .before .before .before .lent-good .ensures) ∙ not-false _ (c .before .before .before .before .before .before .before .before .before .before .before .before .before .before .before .before .before .before .before .before .before .before .before .if2 .left)) (not-false (a .d .registers .config) (c .before .before .before .before .before .before .before .before .before .before .before .before .before .before .before .before .before .before .before .before .if3 .left)) (not-false (a .d .registers .enable) (c .before .before .before .before .before .before .before .before .before .before .before .before .before .before .before .before .before .before .if4 .left)) (le-leb _ _ (c .before .before .before .before .before .before .before .before .before .before .before .before .before .if5 .left)) (c .before .before .before .before .before .before .before .before .before .before .before .condition .given .1)))
-    (λ c. let a = c .before .before .before .before .before .before .before .before .before .before .before .before .before .before .before .before .before .before .before .before .before .args in rw (c .refused7 .ensures) (sym (run-by _ _ (a .framebuffer .now) _ _ (a .budget) _ (sym (c .before .before .before .before .before .before .before .before .before .before .before .before .before .before .before .before .is-made .ensures) ∙ not-false _ (c .before .before .before .before .before .before .before .before .before .before .before .before .before .before .before .if1 .left)) (sym (c .before .before .before .before .before .before .before .before .before .before .before .before .before .before .lent-good .ensures) ∙ not-false _ (c .before .before .before .before .before .before .before .before .before .before .before .before .before .if2 .left)) (not-false (a .d .registers .config) (c .before .before .before .before .before .before .before .before .before .before .if3 .left)) (not-false (a .d .registers .enable) (c .before .before .before .before .before .before .before .before .if4 .left)) (le-leb _ _ (c .before .before .before .if5 .left)) (c .before .enum-told2 .given .1)))))
+    returns-6
+    (λ c. search needs)
+    (λ c. search needs)
+    (λ c. search needs)
+    returns-7
+    (λ c. search needs)
+    (λ c. search needs)
+    (λ c. search needs)
+    returns-8)

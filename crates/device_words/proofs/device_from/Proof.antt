@@ -7,7 +7,7 @@ use Rattle.device_words.proofs.device_from.Tie as tie
 
 returns : tie.Need-returns
 unfolding deviceFrom
-returns c = rw (c .condition-from .ensures, c .before .before .before .before .defined-from .ensures)
+returns c = rw (c .condition-from .ensures, c .before .before .before .before .before .before .defined-from .ensures)
 
 pub device-from-spec : {M : Type 1} → statement M
 device-from-spec =
@@ -16,5 +16,5 @@ device-from-spec =
     (λ c. search needs) (λ c. search needs) (λ c. search needs) (λ c. search needs) (λ c. search needs) (λ c. search needs) (λ c. search needs)
     (λ c. search needs) (λ c. search needs) (λ c. search needs) (λ c. search needs) (λ c. search needs) (λ c. search needs) (λ c. search needs)
     (λ c. search needs) (λ c. search needs) (λ c. search needs) (λ c. search needs) (λ c. search needs) (λ c. search needs) (λ c. search needs)
-    (λ c. search needs) (λ c. search needs) (λ c. search needs) (λ c. search needs) (λ c κs. search needs) (λ c. search needs) (λ c. search needs)
-    (λ c. search needs) (λ c κs. search needs) returns)
+    (λ c. search needs) (λ c. search needs) (λ c κs. search needs) (λ c. search needs) (λ c. search needs) (λ c. search needs)
+    (λ c. search needs) (λ c. search needs) (λ c κs. search needs) returns)

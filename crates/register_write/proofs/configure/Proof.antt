@@ -11,6 +11,6 @@ configure-spec =
     tie.close
     (tie.spec
     (λ c. search needs)
-    (λ c. rw (c .before .before .before .acceptance .given .1))
+    (λ c. rw (c .before .before .before .before .acceptance .given .1))
     (λ c. search needs)
     (λ c. rw (c .enum-told .given .1)))

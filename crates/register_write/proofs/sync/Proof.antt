@@ -12,6 +12,6 @@ sync-spec =
     tie.close
     (tie.spec
     (λ c κs. search needs)
-    (λ c. rw (sym (c .before .before .before .before .before .is-running .ensures) ∙ c .before .before .before .before .if1 .taken, (c .before .before .before .if2 .taken)))
+    (λ c. rw (sym (c .before .before .before .before .before .before .is-running .ensures) ∙ c .before .before .before .before .before .if1 .taken, (c .before .before .before .before .if2 .taken)))
     (λ c. rw (sym (c .before .before .is-running .ensures) ∙ c .before .if1 .taken, (c .if2 .left)))
     (λ c. rw (sym (c .before .is-running .ensures) ∙ c .if1 .left)))

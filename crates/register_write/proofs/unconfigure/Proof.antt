@@ -9,4 +9,4 @@ unconfigure-spec =
     tie.close
     (tie.spec
     (λ c κs. search needs)
-    (λ c. rw (c .before .before .idle-of .ensures)))
+    (λ c. rw (c .before .before .before .idle-of .ensures)))

@@ -12,4 +12,4 @@ write-id-spec =
     (tie.spec
     (λ c. rw (lt-leb 0x90000000 _ (c .if1 .taken)))
     (λ c. rw (le-leb 0x90000000 _ (c .before .if1 .left), lt-leb _ 0x90000002 (c .if2 .taken)))
-    (λ c. rw (le-leb 0x90000000 _ (c .before .before .before .before .if1 .left), le-leb _ 0x90000002 (c .before .before .before .if2 .left))))
+    (λ c. rw (le-leb 0x90000000 _ (c .before .before .before .before .before .if1 .left), le-leb _ 0x90000002 (c .before .before .before .before .if2 .left))))

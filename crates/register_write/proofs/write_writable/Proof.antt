@@ -1,6 +1,8 @@
 -- `register_write::write_writable` meets its contract.
 -- Assumes nothing.
 use borrow.Author.Needs.{needs}
+use mathlib.Core.Path.{sym, _∙_}
+use borrow.Author.Tests.{not-true, not-false}
 use Rattle.register_write.specs.Registers.{writableWritten}
 use Rattle.register_write.proofs.write_writable.Statement.{statement}
 use Rattle.register_write.proofs.write_writable.Tie as tie
@@ -10,36 +12,10 @@ unfolding writableWritten
 write-writable-spec =
     tie.close
     (tie.spec
-    (λ c. search needs)
     (λ c κs. search needs)
-    (λ c. search needs)
+    (λ c. rw (sym (c .before .in-range .ensures) ∙ not-true _ (c .if1 .taken)))
     (λ c κs. search needs)
-    (λ c. search needs)
     (λ c κs. search needs)
-    (λ c. search needs)
+    (λ c. rw (sym (c .before .before .before .before .in-range .ensures) ∙ not-false _ (c .before .before .before .if1 .left), sym (c .before .before .ring-asked .ensures) ∙ c .before .if2 .taken) (c .write-ring .ensures))
     (λ c κs. search needs)
-    (λ c. search needs)
-    (λ c κs. search needs)
-    (λ c. search needs)
-    (λ c κs. search needs)
-    (λ c. search needs)
-    (λ c κs. search needs)
-    (λ c. search needs)
-    (λ c κs. search needs)
-    (λ c. search needs)
-    (λ c κs. search needs)
-    (λ c. search needs)
-    (λ c κs. search needs)
-    (λ c. search needs)
-    (λ c κs. search needs)
-    (λ c. rw (c .before .enum-told .given .1, c .write-id .ensures))
-    (λ c. rw (c .before .enum-told2 .given .1) (c .write-enable .ensures))
-    (λ c. rw (c .before .enum-told3 .given .1) (c .write-width .ensures))
-    (λ c. rw (c .before .enum-told4 .given .1) (c .write-height .ensures))
-    (λ c. rw (c .before .enum-told5 .given .1) (c .write-config-done .ensures))
-    (λ c. rw (c .before .enum-told6 .given .1, c .sync .ensures))
-    (λ c. rw (c .before .enum-told7 .given .1) (c .taken .ensures))
-    (λ c. rw (c .before .enum-told8 .given .1) (c .taken2 .ensures))
-    (λ c. rw (c .before .enum-told9 .given .1) (c .taken3 .ensures))
-    (λ c. rw (c .before .enum-told10 .given .1) (c .taken4 .ensures))
-    (λ c. rw (c .before .enum-told11 .given .1) (c .write-cursor-on .ensures)))
+    (λ c. rw (sym (c .before .before .before .before .in-range .ensures) ∙ not-false _ (c .before .before .before .if1 .left), sym (c .before .before .ring-asked .ensures) ∙ c .before .if2 .left, c .effect .ensures)))

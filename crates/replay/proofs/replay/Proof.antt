@@ -7,6 +7,17 @@ use Rattle.replay.proofs.Laws.{replays}
 use Rattle.replay.proofs.replay.Statement.{statement}
 use Rattle.replay.proofs.replay.Tie as tie
 
+abbrev at-walk : tie.After-slice-known8 → tie.After-walk
+at-walk c = c .before .before .before .before .before .before .before .before
+
+abbrev started : tie.After-walk → tie.Else1
+started c = c .before .before .before .before .before
+
+returns-2 : tie.Need-returns-2
+returns-2 c =
+    let s = started (at-walk c) in
+    replays _ _ _ _ (sym (s .before .is-start .ensures) ∙ not-false _ (s .if1 .left)) (at-walk c .walk .ensures)
+
 pub replay-spec : {M : Type 1} → statement M
 replay-spec =
     tie.close
@@ -21,4 +32,4 @@ replay-spec =
     (λ c. search needs)
     (λ c. search needs)
     (λ c. search needs)
-    (λ c. replays _ _ _ _ (sym (c .before .before .before .before .before .before .before .before .before .before .before .before .before .before .is-start .ensures) ∙ not-false _ (c .before .before .before .before .before .before .before .before .before .before .before .before .before .if1 .left)) (c .before .before .before .before .before .before .before .before .walk .ensures)))
+    returns-2)

@@ -5,6 +5,7 @@ use mathlib.Core.Path.{_≡_, refl, _∙_}
 use Prim.Native.Nat.{_-_}
 use native.Mathlib.Omega.{arith}
 use lib.ListN.{length, length-set}
+use Rattle.device_run.specs.Run.{lent}
 use Rattle.replay.specs.Replay.{world}
 use Rattle.replay.proofs.Walks.{Walked, walked-start, walked-more, walked-end}
 use Rattle.replay.proofs.walk.Statement.{statement}
@@ -12,11 +13,21 @@ use Rattle.replay.proofs.walk.Tie as tie
 
 abbrev Inv-loop : tie.InvT-loop
 Inv-loop list₀ ring₀ framebuffer screen₀ cursor₀ d₀ i₀ list ring screen cursor d i =
-    Walked list₀ (world d₀ ring₀ framebuffer screen₀ cursor₀) list (world d ring framebuffer screen cursor) i
+    Walked list₀ (world d₀ (lent ring₀ framebuffer screen₀ cursor₀)) list (world d (lent ring framebuffer screen cursor)) i
     × (length ring ≡ length ring₀) × (length screen ≡ length screen₀) × (length cursor ≡ length cursor₀)
 
 abbrev μ-loop : tie.MeasureT-loop
 μ-loop list₀ ring₀ framebuffer screen₀ cursor₀ d₀ i₀ list ring screen cursor d i = length list - i
+
+-- the place where the first word of a pair is read, and the call on the pair
+abbrev at-read : tie.After-perform-pair Inv-loop μ-loop → tie.After-slice-known5 Inv-loop μ-loop
+at-read c = c .before .before .before .before .before
+
+abbrev at-pair : tie.After-next Inv-loop μ-loop → tie.After-perform-pair Inv-loop μ-loop
+at-pair c = c .before .before .before .before .before .before .before
+
+abbrev turn : tie.After-next Inv-loop μ-loop → tie.In-loop Inv-loop μ-loop
+turn c = at-read (at-pair c) .before
 
 -- the two words of a pair are in the list, and their places fit
 first : tie.Need-mul-perform-pair Inv-loop μ-loop
@@ -30,10 +41,10 @@ second c = let w = c .before .before .loop .inv .0 in let t = c .before .loop-te
 
 again : tie.Need-loop-again Inv-loop μ-loop
 again c =
-    let at = c .before .before .before .before .before .before .before .before .before .before .before .before .before .before .loop in
+    let done = at-pair c .perform-pair in
+    let at = turn c .before .loop in
     let w = at .inv .0 in
-    let t = c .before .before .before .before .before .before .before .before .before .before .before .before .before .loop-test .taken in
-    let done = c .before .before .before .before .before .before .before .perform-pair in (
+    let t = turn c .loop-test .taken in (
       walked-more _ _ _ _ _ w _ (omega arith) (done .ensures),
       done .kept .1 .1 .1 .0 ∙ at .inv .1,
       done .kept .1 .1 .1 .1 .1 .0 ∙ at .inv .2,
@@ -54,13 +65,13 @@ walk-spec =
     second
     (λ c. let w = c .before .before .before .loop .inv .0 in let t = c .before .before .loop-test .taken in omega arith)
     (λ c κs. search needs)
-    (λ c. first (c .before .before .before .before .before .before .before .before .before .before .before .before .before))
-    (λ c. let w = c .before .before .before .before .before .before .before .before .before .before .before .before .before .before .loop .inv .0 in let t = c .before .before .before .before .before .before .before .before .before .before .before .before .before .loop-test .taken in omega arith)
-    (λ c. one-on (c .before .before .before .before .before .before .before .before .before .before .before .before))
-    (λ c. second (c .before .before .before .before .before .before .before .before .before .before .before .before))
-    (λ c. let w = c .before .before .before .before .before .before .before .before .before .before .before .before .before .before .loop .inv .0 in let t = c .before .before .before .before .before .before .before .before .before .before .before .before .before .loop-test .taken in rw length-set (omega arith))
-    (λ c. let k = second (c .before .before .before .before .before .before .before .before .before .before .before .before) in search needs)
-    (λ c. let w = c .before .before .before .before .before .before .before .before .before .before .before .before .before .before .loop .inv .0 in let t = c .before .before .before .before .before .before .before .before .before .before .before .before .before .loop-test .taken in rw (length-set, length-set) (omega arith))
+    (λ c. first (turn c))
+    (λ c. let w = turn c .before .loop .inv .0 in let t = turn c .loop-test .taken in omega arith)
+    (λ c. one-on (at-read (at-pair c)))
+    (λ c. second (at-read (at-pair c)))
+    (λ c. let w = turn c .before .loop .inv .0 in let t = turn c .loop-test .taken in rw length-set (omega arith))
+    (λ c. let k = second (at-read (at-pair c)) in search needs)
+    (λ c. let w = turn c .before .loop .inv .0 in let t = turn c .loop-test .taken in rw (length-set, length-set) (omega arith))
     again
     (λ c. c .before .loop .inv .0 .same-length)
     (λ c. c .before .loop .inv .1)

@@ -10,10 +10,10 @@ use Rattle.run.proofs.copy_span.Statement.{statement}
 use Rattle.run.proofs.copy_span.Tie as tie
 
 abbrev Inv-loop : tie.InvT-loop
-Inv-loop ring from cursor₀ to n j₀ cursor j = (j ≤ n) × (cursor ≡ paste cursor₀ to (drop from ring) j) × (length cursor ≡ length cursor₀)
+Inv-loop ring from image₀ to n j₀ image j = (j ≤ n) × (image ≡ paste image₀ to (drop from ring) j) × (length image ≡ length image₀)
 
 abbrev μ-loop : tie.MeasureT-loop
-μ-loop ring from cursor₀ to n j₀ cursor j = n - j
+μ-loop ring from image₀ to n j₀ image j = n - j
 
 pub copy-span-spec : {M : Type 1} → statement M
 copy-span-spec =
@@ -33,10 +33,10 @@ copy-span-spec =
     (λ c. let at = c .before .before .loop in
     let a = c .before .before .before .args in (
       omega arith,
-      ap (λ l. set l (a .to + at .j) (getD (a .ring .now) (a .from + at .j) 0)) (at .inv .1) ∙ copy-more (a .cursor .now) (a .to) (a .ring .now) (a .from) (at .j) (omega arith) (omega arith),
+      ap (λ l. set l (a .to + at .j) (getD (a .ring .now) (a .from + at .j) 0)) (at .inv .1) ∙ copy-more (a .image .now) (a .to) (a .ring .now) (a .from) (at .j) (omega arith) (omega arith),
       simp length-set (at .inv .2),
     ))
     (λ c. c .before .loop .inv .2)
     (λ c. let a = c .before .before .args in
     let e : c .before .loop .j ≡ a .n = omega arith in
-    c .before .loop .inv .1 ∙ ap (λ k. paste (a .cursor .now) (a .to) (drop (a .from) (a .ring .now)) k) e))
+    c .before .loop .inv .1 ∙ ap (λ k. paste (a .image .now) (a .to) (drop (a .from) (a .ring .now)) k) e))

@@ -1,7 +1,7 @@
 -- `run::copy_words` meets its contract.
 -- Assumes nothing.
 use mathlib.Core.Path.{refl, ap, _∙_}
-use Prim.Native.Nat.{_-_}
+use Prim.Native.Nat.{_+_, _-_}
 use native.Mathlib.Omega.{arith}
 use borrow.Author.Needs.{needs}
 use lib.ListN.{drop}
@@ -18,12 +18,13 @@ copy-words-spec =
     (λ c κs. omega arith)
     (λ c. search needs)
     (λ c. let a = c .before .before .before .before .before .before .before .args in
-    c .before .before .copy-span .ensures ∙ copied-straight (a .ring .now) (a .lo) (a .hi) (omega arith) (a .p) (a .count) (omega arith) (omega arith) (omega arith) (a .cursor .now) (omega arith) (omega arith))
+    c .before .before .copy-span .ensures ∙ copied-straight (a .ring .now) (a .lo) (a .hi) (omega arith) (a .p) (a .count) (omega arith) (omega arith) (omega arith) (a .image .now) (a .to) (omega arith) (omega arith))
     (λ c κs. omega arith)
+    (λ c. omega arith)
     (λ c. omega arith)
     (λ c κs. let same = c .before .before .before .copy-span2 .kept in omega arith)
     (λ c. search needs)
     (λ c. let a = c .before .before .before .before .before .before .before .before .before .before .before .args in
     c .before .before .copy-span3 .ensures
-    ∙ ap (λ l. paste l (a .hi - a .p) (drop (a .lo) (a .ring .now)) (a .count - (a .hi - a .p))) (c .before .before .before .before .before .before .copy-span2 .ensures)
-    ∙ copied-wrapped (a .ring .now) (a .lo) (a .hi) (omega arith) (a .p) (a .count) (omega arith) (omega arith) (omega arith) (a .cursor .now) (omega arith) _ refl (omega arith)))
+    ∙ ap (λ l. paste l (a .to + (a .hi - a .p)) (drop (a .lo) (a .ring .now)) (a .count - (a .hi - a .p))) (c .before .before .before .before .before .before .copy-span2 .ensures)
+    ∙ copied-wrapped (a .ring .now) (a .lo) (a .hi) (omega arith) (a .p) (a .count) (omega arith) (omega arith) (omega arith) (a .image .now) (a .to) (omega arith) _ refl (omega arith)))

@@ -1,11 +1,53 @@
 -- `run::run` meets its contract.
 -- Assumes nothing.
-use mathlib.Core.Path.{sym, _∙_}
+use mathlib.Core.Path.{_≡_, sym, _∙_}
+use mathlib.Core.Bool.{true}
 use borrow.Author.Needs.{needs}
 use borrow.Author.Tests.{not-true, not-false}
+use lib.ListN.{length}
+use Rattle.ring.specs.Acceptance.{nextOf}
+use Rattle.ring.specs.Waiting.{nextGood}
+use Rattle.run.specs.Run.{fitting}
 use Rattle.run.proofs.RunLaws.{run-unfit, run-lost, run-good, can-view, can-turn, head-there}
 use Rattle.run.proofs.run.Statement.{statement}
 use Rattle.run.proofs.run.Tie as tie
+
+-- ---- the places behind each test, and what it has shown there
+
+abbrev start : tie.Else1 → tie.Start
+start c = c .before .before .before .before .before .before
+
+fits : (c : tie.Else1) → (let a = start c .args in fitting (a .at) (length (a .ring .now)) (length (a .cursor .now)) ≡ true)
+fits c = sym (c .before .is-fitting .ensures) ∙ not-false _ (c .if1 .left)
+
+abbrev past-fits : tie.After-next-good → tie.Else1
+past-fits c = c .before .before
+
+usable : (c : tie.Else2) → (let a = start (past-fits (c .before)) .args in nextGood (a .at) (nextOf (a .ring .now)) ≡ true)
+usable c = sym (c .before .next-good .ensures) ∙ not-false _ (c .if2 .left)
+
+abbrev past-next : tie.After-view-of → tie.Else2
+past-next c = c .before
+
+abbrev at-view : tie.After-turns → tie.After-view-of
+at-view c = c .before .before .before .before
+
+abbrev at-turns : tie.After-slice-known7 → tie.After-turns
+at-turns c = c .before .before .before .before .before .before
+
+-- ---- the returns
+
+returns-2 : tie.Need-returns-2
+returns-2 c =
+    let n = c .before .before in
+    rw (c .lost-answer .ensures) (sym (run-lost _ _ _ _ _ (fits (past-fits n)) (sym (n .next-good .ensures) ∙ not-true _ (c .before .if2 .taken))))
+
+returns-3 : tie.Need-returns-3
+returns-3 c =
+    let t = at-turns c in
+    let v = at-view t in
+    let e = past-next v in
+    t .turns .ensures ∙ run-good _ _ _ _ _ _ (fits (past-fits (e .before))) (usable e) (v .view-of .ensures)
 
 pub run-spec : {M : Type 1} → statement M
 run-spec =
@@ -13,13 +55,13 @@ run-spec =
     (tie.spec
     (λ c κs. search needs)
     (λ c. sym (run-unfit _ _ _ _ _ (sym (c .before .is-fitting .ensures) ∙ not-true _ (c .if1 .taken))))
-    (λ c. head-there _ _ _ (sym (c .before .before .is-fitting .ensures) ∙ not-false _ (c .before .if1 .left)))
+    (λ c. head-there _ _ _ (fits (c .before)))
     (λ c κs. search needs)
     (λ c κs. search needs)
-    (λ c. rw (c .lost-answer .ensures) (sym (run-lost _ _ _ _ _ (sym (c .before .before .before .before .before .is-fitting .ensures) ∙ not-false _ (c .before .before .before .before .if1 .left)) (sym (c .before .before .next-good .ensures) ∙ not-true _ (c .before .if2 .taken)))))
-    (λ c κs. can-view _ _ _ _ (sym (c .before .before .before .before .is-fitting .ensures) ∙ not-false _ (c .before .before .before .if1 .left)) (sym (c .before .next-good .ensures) ∙ not-false _ (c .if2 .left)))
-    (λ c κs. let h = can-turn _ _ _ _ _ (sym (c .before .before .before .before .before .before .before .before .is-fitting .ensures) ∙ not-false _ (c .before .before .before .before .before .before .before .if1 .left)) (sym (c .before .before .before .before .before .next-good .ensures) ∙ not-false _ (c .before .before .before .before .if2 .left)) (c .before .before .before .view-of .ensures) in (h .0, (h .1, h .2)))
+    returns-2
+    (λ c κs. can-view _ _ _ _ (fits (past-fits (c .before))) (usable c))
+    (λ c κs. let v = c .before .before .before in can-turn _ _ _ _ _ (fits (past-fits (past-next v .before))) (usable (past-next v)) (v .view-of .ensures))
     (λ c. search needs)
     (λ c. search needs)
     (λ c. search needs)
-    (λ c. c .before .before .before .before .before .before .turns .ensures ∙ run-good _ _ _ _ _ _ (sym (c .before .before .before .before .before .before .before .before .before .before .before .before .before .before .before .is-fitting .ensures) ∙ not-false _ (c .before .before .before .before .before .before .before .before .before .before .before .before .before .before .if1 .left)) (sym (c .before .before .before .before .before .before .before .before .before .before .before .before .next-good .ensures) ∙ not-false _ (c .before .before .before .before .before .before .before .before .before .before .before .if2 .left)) (c .before .before .before .before .before .before .before .before .before .before .view-of .ensures)))
+    returns-3)

@@ -1,0 +1,118 @@
+-- `run::row_turns` meets its contract. The invariant: whatever follows the row, the run still to do from here is the whole run.
+-- Assumes nothing.
+use mathlib.Core.Path.{_≡_, refl, sym, _∙_}
+use Prim.Native.Nat.{_+_, _≤_, _<_}
+use native.Mathlib.Omega.{arith}
+use borrow.Author.Needs.{needs}
+use lib.ListN.{length}
+use Rattle.command.specs.declared.Step.{Step}
+use Rattle.command.specs.declared.Step.the-variants.{Does}
+use Rattle.command.specs.Findings.{stepIn}
+use Rattle.effect.specs.Effects.{scene}
+use Rattle.run.specs.Turns.{rowIn}
+use Rattle.run.specs.Going.{RowGoing}
+use Rattle.run.proofs.Rows.{row-start, same-row, row-same-length, row-fits, row-more, pauses-spent, pauses-short, pauses-faults, pauses-long}
+use Rattle.run.proofs.row_turns.Statement.{statement}
+use Rattle.run.proofs.row_turns.Tie as tie
+
+abbrev Inv-loop : tie.InvT-loop
+Inv-loop from end before budget memory₀ framebuffer screen₀ width rows at₀ fence₀ left₀ memory screen at fence left =
+    RowGoing (scene width rows framebuffer) budget memory₀ from end before screen₀ at fence left memory screen × (length screen ≡ length screen₀)
+
+abbrev μ-loop : tie.MeasureT-loop
+μ-loop from end before budget memory₀ framebuffer screen₀ width rows at₀ fence₀ left₀ memory screen at fence left = left
+
+abbrev Start : tie.At-loop Inv-loop μ-loop → tie.Start Inv-loop μ-loop
+Start c = c .before .before .before .before
+
+-- the place of a turn's loop
+abbrev at-loop : tie.After-step-in Inv-loop μ-loop → tie.At-loop Inv-loop μ-loop
+at-loop c = c .before .before .before .before
+
+-- what is left of the row, and its step
+module _ (c : tie.At-loop Inv-loop μ-loop) where
+  low : 4 ≤ Start c .args .from
+  low = Start c .pre .0
+
+  there : Start c .args .end ≤ length (Start c .args .memory .now)
+  there = Start c .pre .2
+
+  abbrev same : rowIn (c .loop .memory) (c .loop .at) (Start c .args .end) ≡ rowIn (Start c .args .memory .now) (c .loop .at) (Start c .args .end)
+  same = same-row low there (c .loop .inv .0)
+
+  lengths : length (c .loop .memory) ≡ length (Start c .args .memory .now)
+  lengths = row-same-length low there (c .loop .inv .0)
+
+found : (c : tie.After-step-in Inv-loop μ-loop) (step : Step) → c .step-in .result ≡ step
+    → stepIn tt (rowIn (at-loop c .loop .memory) (at-loop c .loop .at) (Start (at-loop c) .args .end)) ≡ step
+found c step e = sym (c .step-in .ensures) ∙ e
+
+-- what the places in a row ask for
+bounds : (c : tie.At-loop Inv-loop μ-loop)
+    → (4 ≤ c .loop .at) × (c .loop .at ≤ Start c .args .end) × (Start c .args .end ≤ length (c .loop .memory)) × (Start c .args .end ≤ 524288)
+bounds c = let g = c .loop .inv .0 in let l = lengths c in let p = Start c .pre in (omega (arith, g .from, p .0), g .within, omega (arith, l, p .2), p .3)
+
+-- a command that is executed
+module _ (c : tie.After-step Inv-loop μ-loop) where
+  abbrev turn : tie.After-step-in Inv-loop μ-loop
+  turn = c .before .before
+
+  abbrev entered : 0 < at-loop turn .loop .left
+  entered = turn .before .before .before .loop-test .taken
+
+  abbrev does : stepIn tt (rowIn (at-loop turn .loop .memory) (at-loop turn .loop .at) (Start (at-loop turn) .args .end)) ≡ Does (c .step .given .0 .0) (c .step .given .0 .1 .0)
+  does = found turn _ (c .step .given .1)
+
+  fits : (1 ≤ c .step .given .0 .1 .0) × (at-loop turn .loop .at + c .step .given .0 .1 .0 ≤ Start (at-loop turn) .args .end)
+  fits = row-fits (low (at-loop turn)) (there (at-loop turn)) (at-loop turn .loop .inv .0) _ _ does
+
+abbrev done : tie.After-fence-after Inv-loop μ-loop → tie.After-step Inv-loop μ-loop
+done c = c .before .before .before .before .before .before
+
+abbrev stamped-at : tie.After-slice-known4 Inv-loop μ-loop → tie.After-fence-after Inv-loop μ-loop
+stamped-at c = c .before .before .before .before
+
+loop-again : tie.Need-loop-again Inv-loop μ-loop
+loop-again c =
+    let fence = stamped-at c in
+    let step = done fence in
+    let at = at-loop (turn step) in (
+      row-more (low at) (there at) (at .loop .inv .0) _ _ (does step) (entered step) _ (c .before .before .stamp .ensures) _ (fence .before .before .before .draw .ensures) _ (fence .fence-after .ensures),
+      fence .before .before .before .draw .kept .1 .1 .0 ∙ at .loop .inv .1,
+    )
+
+pub row-turns-spec : {M : Type 1} → statement M
+row-turns-spec =
+    tie.close
+    (tie.spec
+    Inv-loop
+    μ-loop
+    (λ c. (row-start _ _ _ _ _ _ _ (c .before .before .before .pre .1), refl))
+    (λ c. let b = bounds (c .before) in omega arith)
+    (λ c. let b = bounds (c .before) in omega arith)
+    (λ c. let b = bounds (c .before .before) in omega arith)
+    (λ c. let b = bounds (c .before .before) in omega arith)
+    (λ c κs. search needs)
+    (λ c. search needs)
+    (λ c κs. search needs)
+    (λ c κs. search needs)
+    (λ c. let step = done c in let b = bounds (at-loop (turn step)) in let f = fits step in omega arith)
+    (λ c κs. let step = done (c .before) in let b = bounds (at-loop (turn step)) in let f = fits step in (omega arith, omega arith))
+    (λ c. omega (arith, entered (done (stamped-at c))))
+    (λ c. omega (arith, entered (done (stamped-at c))))
+    loop-again
+    (λ c. search needs)
+    (λ c. lengths (at-loop (c .before .before)))
+    (λ c. at-loop (c .before .before) .loop .inv .1)
+    (λ c. (at-loop (c .before .before) .loop .inv .0, pauses-short _ _ (c .before .before .before .before .before .loop-test .taken) (rw (← same (at-loop (c .before .before))) (found (c .before .before) _ (c .enum-told .given .1)))))
+    (λ c. search needs)
+    (λ c. lengths (at-loop (c .before .before .before)))
+    (λ c. at-loop (c .before .before .before) .loop .inv .1)
+    (λ c. (at-loop (c .before .before .before) .loop .inv .0, pauses-faults _ _ _ (c .before .before .before .before .before .before .loop-test .taken) (rw (← same (at-loop (c .before .before .before))) (found (c .before .before .before) _ (c .before .step2 .given .1)))))
+    (λ c. search needs)
+    (λ c. lengths (at-loop (c .before .before .before)))
+    (λ c. at-loop (c .before .before .before) .loop .inv .1)
+    (λ c. (at-loop (c .before .before .before) .loop .inv .0, pauses-long _ _ _ (c .before .before .before .before .before .before .loop-test .taken) (rw (← same (at-loop (c .before .before .before))) (found (c .before .before .before) _ (c .before .step3 .given .1)))))
+    (λ c. lengths (c .before))
+    (λ c. c .before .loop .inv .1)
+    (λ c. (c .before .loop .inv .0, pauses-spent _ _ (omega (arith, c .loop-test .left)))))
