@@ -1,7 +1,7 @@
 /*
  * svga.h: the host side of a VMware SVGA II display adapter.
  *
- * Link libcapi.a (`rt staticlib capi` writes it to target/staticlib); it needs memmove of the C library and nothing else. C99 or C++.
+ * Link libsvga.a (`rt staticlib svga` writes it to target/staticlib); it needs memmove of the C library and nothing else. C99 or C++.
  *
  * The library has no memory of its own and keeps no pointer. A device is SVGA_DEVICE_WORDS words that you hold, and each call is lent
  * the memories that it works on, each as a pointer and a length in 32-bit words:

@@ -287,7 +287,7 @@ impl fmt::Display for Error {
             ),
             Error::Malformed => f.write_str("the words are not those of a device"),
             Error::AppendRefused => f.write_str("the word was not appended: the ring is full, or its words 0 to 3 are unusable"),
-            Error::Unknown { answer } => write!(f, "answer {answer}, which this crate does not know: it and libcapi.a are of different versions"),
+            Error::Unknown { answer } => write!(f, "answer {answer}, which this crate does not know: it and libsvga.a are of different versions"),
         }
     }
 }

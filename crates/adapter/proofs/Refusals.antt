@@ -10,7 +10,7 @@ use lib.ListN.{length}
 use borrow.Author.Tests.{leb-false, lt-leb}
 use borrow.Table.Steps.{cases}
 use Rattle.device.specs.declared.Device.{Device}
-use Rattle.device.specs.Device.{pixelsOf, widthOf, heightOf, modeFits, made}
+use Rattle.device.specs.Device.{pixelsOf, widthOf, heightOf, modeFits, wellFormed}
 use Rattle.adapter.specs.Picture.{lengthsGood, pictureOf}
 
 -- screen, image and output have their lengths
@@ -23,7 +23,7 @@ pub refused-picture : (d : Device) (screen image output : List ℕ) → (picture
     → pictureOf d screen image output .output ≡ output
 unfolding pictureOf
 refused-picture d screen image output =
-    cases (made d)
+    cases (wellFormed d)
     (λ m.
     cases (lent d screen image output)
     (λ l. cases (modeFits d) (λ t. simp (m, l, t) (λ n. absurd (n refl))) (λ f. simp (m, l, f) (λ n. refl)))
@@ -45,7 +45,7 @@ is-24 true true = (λ e. absurd (omega arith), λ e. absurd (true≢false cc))
 is-24 true false = (λ e. (refl, refl), λ e. refl)
 is-24 false f = (λ e. absurd (omega arith), λ e. absurd (true≢false cc))
 
-module _ (d : Device) (screen image output : List ℕ) (m : made d ≡ true) where
+module _ (d : Device) (screen image output : List ℕ) (m : wellFormed d ≡ true) where
   picture-number : pictureOf d screen image output .answer ≡ pictureAnswer (lent d screen image output) (modeFits d)
   unfolding pictureOf
   picture-number =

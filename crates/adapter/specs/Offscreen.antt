@@ -5,7 +5,7 @@ use Rattle.device.specs.declared.Device.{Device}
 use Rattle.adapter.specs.declared.Edges.{Edges}
 use Rattle.register.specs.declared.ReadOnly.{ReadOnly}
 use Rattle.register.specs.declared.ReadOnly.the-variants.{Depth, BytesPerLine, FbSize, VramSize}
-use Rattle.device.specs.Device.{widthOf, heightOf, made}
+use Rattle.device.specs.Device.{widthOf, heightOf, wellFormed}
 use Rattle.register_read.specs.Registers.{readOnlyValue}
 
 -- What a read-only register reads.
@@ -20,7 +20,7 @@ ceiling a b = (a + b - 1) / b
 -- ends excluded. It may be empty. The base only reports its four edges, worked out by these rules even then."
 unfoldable pub offscreenOf : Device → Edges
 offscreenOf d =
-    cond (made d)
+    cond (wellFormed d)
     (record {
       left = 0;
       top = ceiling (reads d FbSize) (reads d BytesPerLine);

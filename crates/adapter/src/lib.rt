@@ -1,7 +1,8 @@
 // The device: making, registers, run, picture, offscreen rectangle, fences.
 use cursor::Defined;
-use picture::Over;
-use picture::Seen;
+use cursor::IMAGE_WORDS;
+use picture::Overlay;
+use picture::VisibleCursor;
 ghost use mathlib.Core.Path.{_≡_};
 ghost use Rattle.device.specs.Device.{definedOf};
 ghost use Rattle.adapter.specs.Picture.{pictureNumber, pictured, cursorOver, lengthsGood, pictureOf};
@@ -16,7 +17,7 @@ pub use device::Plane;
 pub use device::Registers;
 pub use device::Sizes;
 pub use device::condition_of;
-pub use device::is_made;
+pub use device::is_well_formed;
 pub use device::make;
 pub use device::mode_fits;
 pub use device_run::Ran;
@@ -61,7 +62,7 @@ pub fn picture_number(answer: PictureAnswer) -> u32
 // ---- picture
 
 // The cursor that appears in a picture: shown, and its remembered id is that of the defined cursor.
-fn cursor_over(d: Device) -> Over
+fn cursor_over(d: Device) -> Overlay
     ensures { λ r. ⌜ r ≡ cursorOver d (definedOf d) ⌝ }
 {
     let plane = d.plane;
@@ -69,19 +70,19 @@ fn cursor_over(d: Device) -> Over
     let defined = marks.defined;
     match defined {
         Defined::Undefined => {
-            return Over::Nothing;
+            return Overlay::Nothing;
         }
         Defined::Cursor(shape) => {
             if plane.shown {
                 if plane.id == shape.id {
-                    return Over::Cursor(Seen {
+                    return Overlay::Cursor(VisibleCursor {
                         shape,
                         x: plane.x,
                         y: plane.y,
                     });
                 }
             }
-            return Over::Nothing;
+            return Overlay::Nothing;
         }
     }
 }
@@ -92,7 +93,7 @@ fn lengths_good(pixels: usize, screen: usize, image: usize, output: usize) -> bo
     if screen != pixels {
         return false;
     }
-    if image != 4096 {
+    if image != IMAGE_WORDS {
         return false;
     }
     output == pixels
@@ -103,7 +104,7 @@ fn lengths_good(pixels: usize, screen: usize, image: usize, output: usize) -> bo
 pub fn picture(d: Device, screen: &[u32], image: &[u32], output: &mut [u32]) -> PictureAnswer
     ensures { λ r. ⌜ pictured r (now (output .exit)) ≡ pictureOf d (now (screen .entry)) (now (image .entry)) (now (output .entry)) ⌝ }
 {
-    let good = is_made(d);
+    let good = is_well_formed(d);
     if !good {
         return PictureAnswer::TooLarge;
     }
@@ -130,7 +131,7 @@ pub fn picture(d: Device, screen: &[u32], image: &[u32], output: &mut [u32]) -> 
 pub fn offscreen(d: Device) -> Edges
     ensures { λ r. ⌜ r ≡ offscreenOf d ⌝ }
 {
-    let good = is_made(d);
+    let good = is_well_formed(d);
     if !good {
         return Edges {
             left: 0,

@@ -12,15 +12,15 @@ use Rattle.pixel.specs.Blend.{blendPixel}
 use Rattle.raster.specs.Painters.{rowsFit}
 use Rattle.cursor.specs.Plane.{shapeGood, covers, covered, cursorPixel}
 use Rattle.picture.specs.Picture.{coveredBy, pixelOver, picturePixel, composed}
-use Rattle.order.specs.declared.Cause.{Cause}
-use Rattle.order.specs.declared.Cause.the-variants.{NotOffered, BadOperand, TooLong, BadNext}
-use Rattle.order.specs.declared.End.{End}
-use Rattle.order.specs.declared.End.the-variants.{Drained, Waiting, Fault}
-use Rattle.order.specs.Straight.{endNumber, Turn, ends, exec, Line, beyond, next, steps, straight, whole}
-use Rattle.order.specs.Table.{unless, turnOf}
-use Rattle.order.specs.Claim.{run, spent, standing, ended, Reply, ran, answerNumber, taken, counted, metEnd, met, faulted, first, fed, done, stood, says}
-use Rattle.order.specs.Queue.{fresh, offer, runs, try, act, play}
-use Rattle.order.proofs.QueueLaws.{runs-ends, runs-exec, demand3}
+use Rattle.execution.specs.declared.Cause.{Cause}
+use Rattle.execution.specs.declared.Cause.the-variants.{NotOffered, BadOperand, TooLong, BadNext}
+use Rattle.execution.specs.declared.End.{End}
+use Rattle.execution.specs.declared.End.the-variants.{Drained, Waiting, Fault}
+use Rattle.execution.specs.Straight.{endNumber, Turn, ends, exec, Line, beyond, next, steps, straight, whole}
+use Rattle.execution.specs.Table.{unless, turnOf}
+use Rattle.execution.specs.Claim.{run, spent, standing, ended, Reply, ran, answerNumber, taken, counted, metEnd, met, faulted, first, fed, countAll, standingFault, says}
+use Rattle.execution.specs.Queue.{fresh, offer, runs, try, act, play}
+use Rattle.execution.proofs.QueueLaws.{runs-ends, runs-exec, demand3}
 use Rattle.command.specs.Commands.{entry, kindOf, commands}
 use Rattle.command.proofs.Laws.{command-laws}
 use Rattle.effect.specs.Effects.{Scene, Machine, screenAfter, cursorAfter, fenceAfter, definedAfter}
@@ -30,7 +30,7 @@ use Rattle.ring.specs.Acceptance.{nextOf}
 use Rattle.ring.specs.Waiting.{after, ahead, between, words, waiting, placed, nextGood}
 use Rattle.run.specs.Run.{knownOf, turnIn, stamped, left, runWords, fitting, runIn}
 use Rattle.device.specs.declared.Condition.the-variants.{Running}
-use Rattle.device.specs.Device.{sizesGood, modeGood, conditionGood, definedGood, made}
+use Rattle.device.specs.Device.{sizesGood, modeGood, conditionGood, definedGood, wellFormed}
 use Rattle.device_run.specs.Run.{lentGood, conditionAfter, busyAfter, runBy, runOf}
 use Rattle.device_run.proofs.RunLaws.{run-by}
 use Rattle.adapter.specs.Picture.{Pictured, cursorOver, lengthsGood, pictureOf}
@@ -41,7 +41,7 @@ use Rattle.cases.specs.Impostors.{NotRefused, OneFence, shows, BareScree
 module _ (s : Scene) (m : Machine) where
   -- one command waits behind a FENCE's two appends, and so a run of budget b counts the smaller of b and 1
   one-waits : (b : ℕ) (r : Reply) (z : Line Machine) (f : Option Cause) → Claimed s m (answering r (fence 7 ++ run b ∷ [])) z f → counted r ≡ min b 1
-  unfolding steps straight whole unless turnOf taken counted faulted first fed done stood says entry kindOf commands
+  unfolding steps straight whole unless turnOf taken counted faulted first fed countAll standingFault says entry kindOf commands
   one-waits b r z f d = ap counted (d .answers (answering r (fence 7)) [] (record { op = run b; reply = r }) refl)
 
   pub refuses-everything : RefusesEverything s m
@@ -58,14 +58,14 @@ module _ (s : Scene) (m : Machine) where
 
   -- after one command the fence is 7, whatever else waits
   pub touches-nothing : TouchesNothing s m
-  unfolding straight unless turnOf taken counted fed done entry kindOf commands E.done fenceAfter definedAfter
+  unfolding straight unless turnOf taken counted fed countAll entry kindOf commands E.done fenceAfter definedAfter
   touches-nothing zero-before z f same d =
       let new : fenceIn z ≡ 7 = ap fenceIn (d .same) in
       let old : fenceIn z ≡ m .marks .fence = ap (λ (x : Machine). x .marks .fence) same in
       omega arith
 
   pub whole-ring-at-once : WholeRingAtOnce s m
-  unfolding straight unless turnOf taken counted fed done entry kindOf commands E.done fenceAfter definedAfter
+  unfolding straight unless turnOf taken counted fed countAll entry kindOf commands E.done fenceAfter definedAfter
   whole-ring-at-once z f eight d = let seven : fenceIn z ≡ 7 = ap fenceIn (d .same) in omega arith
 
   pub right-is-not-caught : RightIsNotCaught s m
@@ -105,12 +105,12 @@ not-refused d l budget c =
     (run-number _ (c .place) budget (l .ring) _)
 
 pub one-fence : OneFence
-unfolding sizesGood modeGood conditionGood definedGood made lentGood runOf runBy conditionAfter busyAfter runIn runWords left stamped fitting placed nextGood turnIn after ahead between words waiting runs unless turnOf entry kindOf commands E.done screenAfter cursorAfter fenceAfter definedAfter
+unfolding sizesGood modeGood conditionGood definedGood wellFormed lentGood runOf runBy conditionAfter busyAfter runIn runWords left stamped fitting placed nextGood turnIn after ahead between words waiting runs unless turnOf entry kindOf commands E.done screenAfter cursorAfter fenceAfter definedAfter
 one-fence rest framebuffer screen cursor r f s c = rw (r, f, s, c)
 
 -- the blue pixel of the cursor
 pub picture-shown : (rest : List ℕ) → length rest ≡ 4095 → pictureOf shows (0 ∷ []) (0xFF0000FF ∷ rest) (0 ∷ []) ≡ record { answer = 0; output = 255 ∷ [] }
-unfolding sizesGood modeGood conditionGood definedGood made cursorOver lengthsGood pictureOf shapeGood composed rowsFit paintedIf painted tabulate picturePixel coveredBy covered covers pixelOver cursorPixel blendPixel
+unfolding sizesGood modeGood conditionGood definedGood wellFormed cursorOver lengthsGood pictureOf shapeGood composed rowsFit paintedIf painted tabulate picturePixel coveredBy covered covers pixelOver cursorPixel blendPixel
 picture-shown rest e = rw e
 
 pub bare-screen : BareScreen

@@ -12,9 +12,9 @@ use Rattle.pixel.specs.Blend.{redOf, greenOf, blueOf, blendPixel}
 use Rattle.raster.specs.Painters.{filled, copied}
 use Rattle.cursor.specs.declared.Defined.the-variants.{Undefined}
 use Rattle.cursor.specs.Plane.{cornerOf, offsetAt, covers}
-use Rattle.order.specs.Table.{turnOf}
-use Rattle.order.specs.Claim.{answerNumber}
-use Rattle.order.specs.Queue.{runs}
+use Rattle.execution.specs.Table.{turnOf}
+use Rattle.execution.specs.Claim.{answerNumber}
+use Rattle.execution.specs.Queue.{runs}
 use Rattle.ring.specs.Waiting.{carried}
 use Rattle.command.specs.Commands.{sizeBy, kindIn}
 use Rattle.effect.specs.Effects.{scene}

@@ -7,17 +7,17 @@ use mathlib.Core.Option.{Option}
 use mathlib.Core.List.{List, [], _∷_, _++_}
 use lib.ListN.{length}
 use Rattle.cursor.specs.declared.Defined.the-variants.{Undefined, Cursor}
-use Rattle.order.specs.declared.Cause.{Cause}
-use Rattle.order.specs.declared.End.the-variants.{Drained}
-use Rattle.order.specs.Straight.{Line}
-use Rattle.order.specs.Table.{turnOf}
-use Rattle.order.specs.Claim.{Op, append, run, spent, standing, ended, Reply, appended, ran, Event, Demand3}
+use Rattle.execution.specs.declared.Cause.{Cause}
+use Rattle.execution.specs.declared.End.the-variants.{Drained}
+use Rattle.execution.specs.Straight.{Line}
+use Rattle.execution.specs.Table.{turnOf}
+use Rattle.execution.specs.Claim.{Op, append, run, spent, standing, ended, Reply, appended, ran, Event, Demand3}
 use Rattle.ring.specs.declared.Ring.{Ring}
 use Rattle.effect.specs.Effects.{Scene, Machine}
 use Rattle.run.specs.Run.{table}
 use Rattle.device.specs.declared.Condition.the-variants.{Idle, Running}
 use Rattle.device.specs.declared.Device.{Device}
-use Rattle.device.specs.Device.{freshRegisters, modeFits, made}
+use Rattle.device.specs.Device.{freshRegisters, modeFits, wellFormed}
 use Rattle.register_write.specs.Registers.{setMode, setState}
 use Rattle.device_run.specs.Run.{Lent, lent, lentGood, runOf}
 use Rattle.adapter.specs.Picture.{pictureOf}
@@ -79,7 +79,7 @@ module _ (s : Scene) (m : Machine) where
 
 -- A device that none of the refusals 20 to 24 concerns.
 pub record CanRun (d : Device) (l : Lent) : Type 0 where
-  pub well : made d ≡ true
+  pub well : wellFormed d ≡ true
   pub right : lentGood d l ≡ true
   pub configured : d .registers .config ≡ true
   pub enabled : d .registers .enable ≡ true

@@ -9,9 +9,9 @@ use native.Mathlib.Omega.{arith}
 use lib.ListN.{length, take, getD}
 use borrow.Author.Tests.{ne-eqb}
 use Rattle.geometry.proofs.Tabulate.{length-tabulate, getD-tabulate}
-use Rattle.order.specs.declared.Cause.the-variants.{BadOperand, TooLong}
-use Rattle.order.specs.declared.End.the-variants.{Waiting, Fault}
-use Rattle.order.specs.Straight.{Turn, ends, exec}
+use Rattle.execution.specs.declared.Cause.the-variants.{BadOperand, TooLong}
+use Rattle.execution.specs.declared.End.the-variants.{Waiting, Fault}
+use Rattle.execution.specs.Straight.{Turn, ends, exec}
 use Rattle.cursor.specs.declared.Shape.{Shape}
 use Rattle.cursor.specs.Plane.{shapeGood}
 use Rattle.command.specs.declared.Action.{Action}

@@ -1,4 +1,4 @@
--- What holds of document 01's rows: a turn looks at a command's own words, and the table keeps what the theorem of `order` asks.
+-- What holds of document 01's rows: a turn looks at a command's own words, and the table keeps what the theorem of `execution` asks.
 -- Assumes nothing.
 use mathlib.Core.Path.{_≡_, refl, sym, ap, _∙_}
 use mathlib.Core.Bool.{Bool, true, false}
@@ -7,10 +7,10 @@ use Prim.Native.Nat.{ℕ, _+_, _≤_, _<_}
 use native.Mathlib.Omega.{arith}
 use lib.ListN.{length, take, getD}
 use lib.Seq.{getD-take}
-use Rattle.order.specs.Straight.{Turn, ends, exec}
-use Rattle.order.specs.Table.{Table, headOf, sizeOf, allOf, turnAt, turnOf}
-use Rattle.order.proofs.Laws.{Laws}
-use Rattle.order.proofs.Tables.{laws-of}
+use Rattle.execution.specs.Straight.{Turn, ends, exec}
+use Rattle.execution.specs.Table.{Table, headOf, sizeOf, allOf, turnAt, turnOf}
+use Rattle.execution.proofs.Laws.{Laws}
+use Rattle.execution.proofs.Tables.{laws-of}
 use Rattle.command.specs.declared.Action.{Action}
 use Rattle.command.specs.declared.Kind.{Kind}
 use Rattle.command.specs.declared.Kind.the-variants.{Update, RectFill, RectCopy, RectRopFill, RectRopCopy, DefineAlphaCursor, UpdateVerbose, Fence, Escape, Foreign}

@@ -7,13 +7,13 @@ use mathlib.Core.List.{List, [], _∷_, _++_}
 use Prim.Native.Nat.{ℕ, _+_, _≤_, _<_}
 use native.Mathlib.Omega.{arith}
 use lib.ListN.{length, take, getD}
-use Rattle.order.specs.declared.Cause.{Cause}
-use Rattle.order.specs.declared.Cause.the-variants.{NotOffered, BadOperand, TooLong}
-use Rattle.order.specs.declared.End.the-variants.{Drained, Waiting, Fault}
-use Rattle.order.specs.Straight.{Turn, ends, exec}
-use Rattle.order.specs.Table.{Table, headOf, sizeOf, allOf, turnAt, turnOf}
-use Rattle.order.proofs.Tables.{way, turn-by}
-use Rattle.order.proofs.Tables as W
+use Rattle.execution.specs.declared.Cause.{Cause}
+use Rattle.execution.specs.declared.Cause.the-variants.{NotOffered, BadOperand, TooLong}
+use Rattle.execution.specs.declared.End.the-variants.{Drained, Waiting, Fault}
+use Rattle.execution.specs.Straight.{Turn, ends, exec}
+use Rattle.execution.specs.Table.{Table, headOf, sizeOf, allOf, turnAt, turnOf}
+use Rattle.execution.proofs.Tables.{way, turn-by}
+use Rattle.execution.proofs.Tables as W
 use Rattle.command.specs.declared.Action.{Action}
 use Rattle.command.specs.Commands.{Known, entry, sizeBy, kindOf, kindIn, commands}
 use Rattle.command.specs.Findings.{findings, findsIn}

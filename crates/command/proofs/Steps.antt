@@ -11,13 +11,13 @@ use lib.ListN.{length, take, getD}
 use mathlib.Core.Logic.{_≢_}
 use borrow.Author.Tests.{eqb-true, eqb-false}
 use borrow.Table.Steps.{cases}
-use Rattle.order.specs.declared.Cause.{Cause}
-use Rattle.order.specs.declared.Cause.the-variants.{NotOffered, BadOperand, TooLong, BadNext}
-use Rattle.order.specs.declared.End.{End}
-use Rattle.order.specs.declared.End.the-variants.{Drained, Waiting, Fault}
-use Rattle.order.specs.Straight.{Turn, ends, exec}
-use Rattle.order.specs.Table.{turnOf}
-use Rattle.order.proofs.Laws.{Laws}
+use Rattle.execution.specs.declared.Cause.{Cause}
+use Rattle.execution.specs.declared.Cause.the-variants.{NotOffered, BadOperand, TooLong, BadNext}
+use Rattle.execution.specs.declared.End.{End}
+use Rattle.execution.specs.declared.End.the-variants.{Drained, Waiting, Fault}
+use Rattle.execution.specs.Straight.{Turn, ends, exec}
+use Rattle.execution.specs.Table.{turnOf}
+use Rattle.execution.proofs.Laws.{Laws}
 use Rattle.command.specs.declared.Action.{Action}
 use Rattle.command.specs.declared.Action.the-variants as A
 use Rattle.command.specs.declared.Data.{Data}

@@ -7,7 +7,7 @@ use lib.ListN.{getD}
 use Rattle.geometry.specs.declared.Rect.{Rect}
 use Rattle.cursor.specs.declared.Shape.{Shape}
 use Rattle.cursor.specs.Plane.{shapeGood}
-use Rattle.order.specs.Table.{Table}
+use Rattle.execution.specs.Table.{Table}
 use Rattle.command.specs.declared.Source.{Source}
 use Rattle.command.specs.declared.Kind.{Kind}
 use Rattle.command.specs.declared.Kind.the-variants.{Update, RectFill, RectCopy, RectRopFill, RectRopCopy, DefineAlphaCursor, UpdateVerbose, Fence, Escape, Foreign}

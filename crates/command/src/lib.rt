@@ -1,8 +1,8 @@
 // Document 01's nine commands: their numbers, and what a turn finds in words that begin with one. Needs no ring, device or screen.
 use cursor::Shape;
+use execution::Cause;
+use execution::End;
 use geometry::Rect;
-use order::Cause;
-use order::End;
 ghost use mathlib.Core.Path.{_≡_};
 ghost use Prim.Native.Nat.{_+_, _≤_};
 ghost use lib.ListN.{length, getD};

@@ -1,7 +1,10 @@
 // The console: reads requests from standard input, a line each, and prints the answers. What is read and what is printed
 // is `console_session`'s; here are the calls of read and write.
+use console_session::PIXELS;
+use console_session::RING_WORDS;
 use console_session::Session;
 use console_session::Start;
+use cursor::IMAGE_WORDS;
 use libc::STDIN_FILENO;
 use libc::STDOUT_FILENO;
 ghost use Prim.Native.Nat.{_≤_};
@@ -129,10 +132,10 @@ fn end(
 fn main() {
     let mut buffer = io::buffer();
     let mut line = [0u8; 32];
-    let mut ring = [0u32; 2564];
-    let mut framebuffer = [0u32; 1024];
-    let mut screen = [0u32; 1024];
-    let mut cursor = [0u32; 4096];
+    let mut ring = [0u32; RING_WORDS];
+    let mut framebuffer = [0u32; PIXELS as usize];
+    let mut screen = [0u32; PIXELS as usize];
+    let mut cursor = [0u32; IMAGE_WORDS];
     let mut out = [0u8; 106496];
     let start = console_session::begin(&mut ring);
     let Start::Ready(session) = start else {

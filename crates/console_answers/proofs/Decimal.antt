@@ -9,8 +9,8 @@ use native.Mathlib.Omega.{arith}
 use lib.Dec.{ltb}
 use lib.ListN.{length, length-append}
 use borrow.Author.Tests.{lt-ltb, le-ltb}
-use Rattle.console_answers.specs.declared.Answer.{Answer}
-use Rattle.console_answers.specs.declared.Answer.the-variants.{Written, Value, Ran, Shown, Full, Nothing, Bad}
+use Rattle.console_answers.specs.declared.ConsoleAnswer.{ConsoleAnswer}
+use Rattle.console_answers.specs.declared.ConsoleAnswer.the-variants.{Written, Value, Ran, Shown, Full, Nothing, Bad}
 use Rattle.console_answers.specs.Text.{decimalIn, decimalOf, numbersOf, lineOf, textOf}
 
 -- More places than a number has digits change nothing.
@@ -58,7 +58,7 @@ numbers-short a b =
       length-append (decimalOf b) (10 ∷ []),
     )
 
-pub text-short : (a : Answer) → length (textOf a) ≤ 26
+pub text-short : (a : ConsoleAnswer) → length (textOf a) ≤ 26
 unfolding textOf lineOf
 text-short (Written a b) = omega (arith, numbers-short a b)
 text-short (Value a b) = omega (arith, numbers-short a b)

@@ -2,7 +2,7 @@
 -- Assumes nothing.
 use mathlib.Core.Path.{_≡_, refl}
 use mathlib.Core.List.{[], _∷_}
-use Rattle.console_answers.specs.declared.Answer.the-variants.{Ran, Shown, Full}
+use Rattle.console_answers.specs.declared.ConsoleAnswer.the-variants.{Ran, Shown, Full}
 use Rattle.console_answers.specs.Text.{decimalIn, decimalOf, lineOf, textOf}
 
 -- "`run 0 1`"

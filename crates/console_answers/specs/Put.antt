@@ -5,7 +5,7 @@ use mathlib.Core.Bool.{cond}
 use mathlib.Core.List.{List, [], _++_}
 use lib.Dec.{leb}
 use lib.ListN.{length, take}
-use Rattle.console_answers.specs.declared.Answer.{Answer}
+use Rattle.console_answers.specs.declared.ConsoleAnswer.{ConsoleAnswer}
 use Rattle.console_answers.specs.Text.{textOf}
 
 -- Of the buffer the first at bytes were there before; after it the first end, which have the text behind them.
@@ -14,5 +14,5 @@ pub record Put (before : List ℕ) (at : ℕ) (text : List ℕ) (after : List �
   pub ends : end ≡ at + length text
 
 -- An answer has at most 26 bytes. Where the buffer has no room for so many, nothing is put.
-unfoldable pub shown : ℕ → ℕ → Answer → List ℕ
+unfoldable pub shown : ℕ → ℕ → ConsoleAnswer → List ℕ
 shown room at answer = cond (leb (at + 26) room) (textOf answer) []

@@ -4,8 +4,8 @@ use mathlib.Core.Bool.{cond}
 use mathlib.Core.List.{List, [], _∷_, _++_}
 use lib.Dec.{ltb}
 use Rattle.console_lines.specs.Lines.{wordW, wordR, wordRun, wordS}
-use Rattle.console_answers.specs.declared.Answer.{Answer}
-use Rattle.console_answers.specs.declared.Answer.the-variants.{Written, Value, Ran, Shown, Full, Nothing, Bad}
+use Rattle.console_answers.specs.declared.ConsoleAnswer.{ConsoleAnswer}
+use Rattle.console_answers.specs.declared.ConsoleAnswer.the-variants.{Written, Value, Ran, Shown, Full, Nothing, Bad}
 
 -- A number in decimal without leading zeros, of at most k digits.
 unfoldable pub decimalIn : ℕ → ℕ → List ℕ
@@ -35,7 +35,7 @@ numbersOf first second = 9 ∷ (decimalOf first ++ (9 ∷ (decimalOf second ++ (
 
 -- "`w index value` prints w, index, answer. `r index` prints r, index, value. .. `run budget` prints run, answer, count.
 -- `s place` prints s, place, screen pixel."
-unfoldable pub textOf : Answer → List ℕ
+unfoldable pub textOf : ConsoleAnswer → List ℕ
 textOf (Written index answer) = lineOf (wordW ∷ decimalOf index ∷ decimalOf answer ∷ [])
 textOf (Value index value) = lineOf (wordR ∷ decimalOf index ∷ decimalOf value ∷ [])
 textOf (Ran answer count) = lineOf (wordRun ∷ decimalOf answer ∷ decimalOf count ∷ [])

@@ -7,7 +7,7 @@ ghost use Rattle.console_answers.specs.Put.{Put, shown};
 ghost use Rattle.console_lines.specs.Lines.{wordRun};
 
 // What a request is answered with: a register and the answer or its value, a run's answer and count, a place of the screen and its pixel.
-pub enum Answer {
+pub enum ConsoleAnswer {
     Written(u32, u32),
     Value(u32, u32),
     Ran(u32, u32),
@@ -89,28 +89,28 @@ fn put_line(out: &mut [u8], at: usize, letter: u8, first: u32, second: u32) -> u
 }
 
 // The text of an answer, where there is room.
-fn put_answer(answer: Answer, out: &mut [u8], at: usize) -> usize
+fn put_answer(answer: ConsoleAnswer, out: &mut [u8], at: usize) -> usize
     requires { ⌜ at + 26 ≤ length (now out) ⌝ }
     ensures { λ r. ⌜ Put (now (out .entry)) at (textOf answer) (now (out .exit)) r ⌝ }
 {
     match answer {
-        Answer::Written(index, taken) => return put_line(out, at, b'w', index, taken),
-        Answer::Value(index, value) => return put_line(out, at, b'r', index, value),
-        Answer::Shown(place, pixel) => return put_line(out, at, b's', place, pixel),
-        Answer::Ran(end, count) => {
+        ConsoleAnswer::Written(index, taken) => return put_line(out, at, b'w', index, taken),
+        ConsoleAnswer::Value(index, value) => return put_line(out, at, b'r', index, value),
+        ConsoleAnswer::Shown(place, pixel) => return put_line(out, at, b's', place, pixel),
+        ConsoleAnswer::Ran(end, count) => {
             let a = put_run(out, at);
             return put_numbers(out, a, end, count);
         }
-        Answer::Full => return put_full(out, at),
-        Answer::Bad => return put_bad(out, at),
-        Answer::Nothing => return at,
+        ConsoleAnswer::Full => return put_full(out, at),
+        ConsoleAnswer::Bad => return put_bad(out, at),
+        ConsoleAnswer::Nothing => return at,
     }
 }
 
 // Puts an answer's text behind the first at bytes of out, and answers how many bytes there are then. An answer has at most 26 bytes;
 // where out has no room for so many, nothing is put.
 // Rules out: a number with leading zeros; a text that is cut short for want of room.
-pub fn print(answer: Answer, out: &mut [u8], at: usize) -> usize
+pub fn print(answer: ConsoleAnswer, out: &mut [u8], at: usize) -> usize
     ensures { λ r. ⌜ Put (now (out .entry)) at (shown (length (now (out .entry))) at answer) (now (out .exit)) r ⌝ }
 {
     if out.len() < 26 {

@@ -17,6 +17,7 @@ use Rattle.device.specs.declared.Making.the-variants.{Made, Refused}
 use Rattle.device.specs.Device.{fresh, sizesGood}
 use Rattle.device.specs.Making.{Creation, creation, madeOf}
 use Rattle.console_session.specs.declared.Session.{Session}
+use Rattle.console_session.specs.Console.{memory, pixels}
 use Rattle.console_session.specs.Session.{State, fed, fedAll, fits, Within}
 
 pub fed-behind : (s : State) (a : List ℕ) (b : ℕ) → fedAll s (a ++ (b ∷ [])) ≡ fed (fedAll s a) b
@@ -63,7 +64,7 @@ room-test n printed out h =
 
 -- ---- the device
 
-pub console-made : (m : Making) → creation m ≡ madeOf 10256 1024 → m ≡ Made (fresh 10256 1024)
+pub console-made : (m : Making) → creation m ≡ madeOf memory pixels → m ≡ Made (fresh memory pixels)
 unfolding madeOf sizesGood
 console-made (Made d) e = let d-is = ap (λ (c : Creation). c .device) e in cc
 console-made Refused e = let z : _≡_ {A = ℕ} 34 0 = ap (λ (c : Creation). c .answer) e in absurd (omega arith)

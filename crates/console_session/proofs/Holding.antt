@@ -12,7 +12,7 @@ use lib.Seq.{length-take-le, take-suc-set}
 use borrow.Author.Tests.{lt-ltb, le-ltb, le-leb}
 use Rattle.console_lines.specs.declared.Request.{Request}
 use Rattle.console_lines.specs.Lines.{requestOf}
-use Rattle.console_answers.specs.declared.Answer.{Answer}
+use Rattle.console_answers.specs.declared.ConsoleAnswer.{ConsoleAnswer}
 use Rattle.console_answers.specs.Text.{textOf}
 use Rattle.console_answers.specs.Put.{Put, shown}
 use Rattle.console_answers.proofs.Decimal.{text-short}
@@ -31,11 +31,11 @@ kept-all line held b h there =
     let n = length-take-le held line there in
     let full : 32 ≤ length (take held line) = omega arith in rw (le-ltb _ _ full)
 
-chosen-short : (t : Bool) (a : Answer) → length (cond t (textOf a) []) ≤ 26
+chosen-short : (t : Bool) (a : ConsoleAnswer) → length (cond t (textOf a) []) ≤ 26
 chosen-short true a = text-short a
 chosen-short false a = omega arith
 
-pub shown-short : (out after : List ℕ) (room at end : ℕ) (a : Answer) → Put out at (shown room at a) after end → end ≤ at + 26
+pub shown-short : (out after : List ℕ) (room at end : ℕ) (a : ConsoleAnswer) → Put out at (shown room at a) after end → end ≤ at + 26
 unfolding shown
 shown-short out after room at end a put = omega (arith, put .ends, chosen-short (leb (at + 26) room) a)
 

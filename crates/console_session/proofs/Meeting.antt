@@ -10,13 +10,14 @@ use lib.ListN.{length, take, replicate, length-append}
 use lib.Seq.{length-take-le, take-all, take-append-le}
 use borrow.Author.Tests.{ltb-true, ltb-false, lt-ltb, le-ltb, le-leb}
 use borrow.Table.Steps.{cases}
+use Rattle.cursor.specs.Plane.{imageWords}
 use Rattle.device.specs.Device.{fresh}
 use Rattle.device_run.specs.Run.{lent}
 use Rattle.console_lines.specs.Input.{linesOf}
 use Rattle.console_lines.specs.Lines.{inFirst, requestOf}
 use Rattle.console_lines.proofs.Long.{first-bytes}
 use Rattle.console_answers.specs.Text.{textOf}
-use Rattle.console_session.specs.Console.{Console, Performed, performed, ringStart, start}
+use Rattle.console_session.specs.Console.{Console, Performed, performed, memory, ringWords, pixels, ringStart, start}
 use Rattle.console_session.specs.Output.{answersTo, outputOf}
 use Rattle.console_session.specs.Session.{State, begun, told, answered, kept, fed, fedAll, ended, flushed, writtenOut, joined, stateOf}
 
@@ -149,7 +150,7 @@ by-chunks chunks = written-out begun chunks ∙ by-bytes (joined chunks)
 
 -- A session that begins on memories that are zero is the console's start.
 pub begins : (line out : List ℕ)
-    → stateOf (record { device = fresh 10256 1024; held = 0; printed = 0 }) line (lent (ringStart (replicate 2564 0)) (replicate 1024 0) (replicate 1024 0) (replicate 4096 0)) out
+    → stateOf (record { device = fresh memory pixels; held = 0; printed = 0 }) line (lent (ringStart (replicate ringWords 0)) (replicate pixels 0) (replicate pixels 0) (replicate imageWords 0)) out
     ≡ begun
 unfolding begun start
 begins line out = refl

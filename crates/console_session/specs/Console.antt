@@ -4,31 +4,42 @@ use mathlib.Core.Bool.{cond}
 use mathlib.Core.List.{List}
 use lib.Dec.{eqb}
 use lib.ListN.{getD, set, replicate}
+use Rattle.cursor.specs.Plane.{imageWords}
 use Rattle.ring.specs.Append.{Appended, appendOf}
 use Rattle.device.specs.declared.Device.{Device}
 use Rattle.device.specs.Device.{fresh}
-use Rattle.register_write.specs.Answers.{Outcome}
+use Rattle.register_write.specs.Answers.{WriteOutcome}
 use Rattle.register_read.specs.Registers.{readOf}
 use Rattle.register_write.specs.Registers.{written}
 use Rattle.device_run.specs.Run.{Lent, lent, withRing, withFramebuffer, RunOutcome, runOf}
 use Rattle.console_lines.specs.declared.Request.{Request}
 use Rattle.console_lines.specs.declared.Request.the-variants.{Write, Read, Append, Pixel, Run, Screen, Bad}
-use Rattle.console_answers.specs.declared.Answer.{Answer}
-use Rattle.console_answers.specs.declared.Answer.the-variants.{Written, Value, Ran, Shown, Full, Nothing, Bad as SaysBad}
+use Rattle.console_answers.specs.declared.ConsoleAnswer.{ConsoleAnswer}
+use Rattle.console_answers.specs.declared.ConsoleAnswer.the-variants.{Written, Value, Ran, Shown, Full, Nothing, Bad as SaysBad}
 
 -- The device and what is lent to it.
 pub record Console : Type 0 where
   pub device : Device
   pub lent : Lent
 
+-- "M = 10,256, P = 1,024"
+abbrev pub memory : ℕ
+memory = 10256
+
+abbrev pub ringWords : ℕ
+ringWords = 2564
+
+abbrev pub pixels : ℕ
+pixels = 1024
+
 -- "M = 10,256, P = 1,024, everything zero, ring words 16, 10256, 16, 16."
 unfoldable pub ringStart : List ℕ → List ℕ
-ringStart ring = set (set (set (set ring 0 16) 1 10256) 2 16) 3 16
+ringStart ring = set (set (set (set ring 0 16) 1 memory) 2 16) 3 16
 
 unfoldable pub start : Console
 start = record {
-  device = fresh 10256 1024;
-  lent = lent (ringStart (replicate 2564 0)) (replicate 1024 0) (replicate 1024 0) (replicate 4096 0);
+  device = fresh memory pixels;
+  lent = lent (ringStart (replicate ringWords 0)) (replicate pixels 0) (replicate pixels 0) (replicate imageWords 0);
 }
 
 -- ---- requests
@@ -36,13 +47,13 @@ start = record {
 -- A request leaves a console and is answered.
 pub record Performed : Type 0 where
   pub console : Console
-  pub answer : Answer
+  pub answer : ConsoleAnswer
 
 abbrev pub consoleOf : Device → Lent → Console
 consoleOf d l = record { device = d; lent = l }
 
 -- "`w index value` prints w, index, answer."
-abbrev pub afterWrite : Console → ℕ → Outcome → Performed
+abbrev pub afterWrite : Console → ℕ → WriteOutcome → Performed
 afterWrite c index o = record { console = consoleOf (o .device) (c .lent); answer = Written index (o .answer) }
 
 -- "`p word` appends by 000's rule, printing `full` if it can't." An append that is taken answers 0.

@@ -8,20 +8,27 @@ ghost use Rattle.register_read.specs.Registers.{readOf};
 ghost use Rattle.register_write.specs.Registers.{written};
 ghost use Rattle.device_run.specs.Run.{lentBefore, lentAfter};
 ghost use Rattle.console_lines.specs.declared.Request.the-variants.{Run};
-ghost use Rattle.console_session.specs.Console.{performed, consoleOf, ringStart};
+ghost use Rattle.console_session.specs.Console.{performed, consoleOf, memory, pixels, ringStart};
 ghost use Rattle.console_session.specs.Session.{stateBefore, stateAfter, answered, kept, fed, fedAll, ended, fits, Within, HasRoom, ifRoom, emptied};
 ghost use Rattle.console_session.specs.Parts.{performedOf, keepingOf, writtenOf, appendAnswer, readyWith};
 use adapter::Device;
 use adapter::Making;
 use adapter::Value;
-use console_answers::Answer;
+use console_answers::ConsoleAnswer;
 use console_lines::Request;
 use ring::AppendAnswer;
+
+// M, in bytes and in words, and P.
+pub const MEMORY: u32 = 10256;
+
+pub const RING_WORDS: usize = 2564;
+
+pub const PIXELS: u32 = 1024;
 
 // What a request leaves and is answered with.
 pub struct Performed {
     pub device: Device,
-    pub answer: Answer,
+    pub answer: ConsoleAnswer,
 }
 
 // A console between two bytes of its input: the device, how many bytes of the line are held, and how many of the text are printed.
@@ -48,13 +55,13 @@ fn value_of(d: Device, index: u32) -> u32
     }
 }
 
-fn append(ring: &mut [u32], word: u32) -> Answer
+fn append(ring: &mut [u32], word: u32) -> ConsoleAnswer
     ensures { λ r. ⌜ appendAnswer r (now (ring .exit)) (appendOf (now (ring .entry)) word) ⌝ }
 {
     let answer = ring::append(ring, word);
     match answer {
-        AppendAnswer::Taken => return Answer::Nothing,
-        AppendAnswer::Refused => return Answer::Full,
+        AppendAnswer::Taken => return ConsoleAnswer::Nothing,
+        AppendAnswer::Refused => return ConsoleAnswer::Full,
     }
 }
 
@@ -80,7 +87,7 @@ fn pixel_at(screen: &[u32], place: u32) -> u32
 }
 
 // The device stays.
-fn keeping(d: Device, answer: Answer) -> Performed
+fn keeping(d: Device, answer: ConsoleAnswer) -> Performed
     ensures { λ r. ⌜ r ≡ keepingOf d answer ⌝ }
 {
     Performed { answer, device: d }
@@ -91,7 +98,7 @@ fn write_register(d: Device, ring: &[u32], index: u32, value: u32) -> Performed
 {
     let w = adapter::write(d, ring, index, value);
     let number = w.answer;
-    let answer = Answer::Written(index, adapter::write_number(number));
+    let answer = ConsoleAnswer::Written(index, adapter::write_number(number));
     let device = w.device;
     Performed { answer, device }
 }
@@ -109,7 +116,7 @@ fn run_device(
 {
     let r = adapter::run(d, ring, framebuffer, screen, cursor, budget);
     let number = r.answer;
-    let answer = Answer::Ran(adapter::run_number(number), r.count);
+    let answer = ConsoleAnswer::Ran(adapter::run_number(number), r.count);
     let device = r.device;
     Performed { answer, device }
 }
@@ -129,15 +136,18 @@ pub fn perform(
 {
     match request {
         Request::Write(index, value) => return write_register(d, ring, index, value),
-        Request::Read(index) => return keeping(d, Answer::Value(index, value_of(d, index))),
+        Request::Read(index) => return keeping(d, ConsoleAnswer::Value(index, value_of(d, index))),
         Request::Append(word) => return keeping(d, append(ring, word)),
         Request::Pixel(place, pixel) => {
             set_word(framebuffer, place, pixel);
-            return keeping(d, Answer::Nothing);
+            return keeping(d, ConsoleAnswer::Nothing);
         }
         Request::Run(budget) => return run_device(d, ring, framebuffer, screen, cursor, budget),
-        Request::Screen(place) => return keeping(d, Answer::Shown(place, pixel_at(screen, place))),
-        Request::Bad => return keeping(d, Answer::Bad),
+        Request::Screen(place) => return keeping(
+            d,
+            ConsoleAnswer::Shown(place, pixel_at(screen, place)),
+        ),
+        Request::Bad => return keeping(d, ConsoleAnswer::Bad),
     }
 }
 
@@ -255,7 +265,7 @@ fn start_ring(ring: &mut [u32])
     ensures { λ _. ⌜ now (ring .exit) ≡ ringStart (now (ring .entry)) ⌝ }
 {
     set_word(ring, 0, 16);
-    set_word(ring, 1, 10256);
+    set_word(ring, 1, MEMORY);
     set_word(ring, 2, 16);
     set_word(ring, 3, 16);
 }
@@ -263,11 +273,11 @@ fn start_ring(ring: &mut [u32])
 // A session on memories that are zero: the ring words are set.
 // Rules out: a session on a device that was not made; NEXT_CMD or STOP at 0.
 pub fn begin(ring: &mut [u32]) -> Start
-    ensures { λ r. ⌜ r ≡ readyWith (fresh 10256 1024) ⌝ }
+    ensures { λ r. ⌜ r ≡ readyWith (fresh memory pixels) ⌝ }
     ensures { λ r. ⌜ now (ring .exit) ≡ ringStart (now (ring .entry)) ⌝ }
 {
     start_ring(ring);
-    let making = adapter::make(10256, 1024);
+    let making = adapter::make(MEMORY, PIXELS);
     let Making::Made(device) = making else {
         return Start::Refused;
     };

@@ -23,7 +23,7 @@ use Rattle.pixel.specs.Blend.{blendPixel}
 use Rattle.cursor.specs.declared.Shape.{Shape}
 use Rattle.cursor.specs.declared.Span.{Span}
 use Rattle.cursor.specs.Plane.{cornerOf, offsetAt, covers, covered, cursorPixel, overlayFits, overlaid}
-use Rattle.cursor.specs.Spans.{span, atOf, skipOf, spanFrom, overlaidSeen}
+use Rattle.cursor.specs.Spans.{span, atOf, skipOf, spanFrom, overlaidVisible}
 
 -- ---- one axis
 
@@ -36,30 +36,30 @@ offset-cases (pos (suc a)) k out there =
 offset-cases (negsuc b) k out there = there (omega arith) (ap pos (omega arith))
 
 -- the cursor covers k: k is not before the corner, and its column there is one of the cursor's
-record Over (z : ℤ) (size k : ℕ) : Type 0 where
+record OnCursor (z : ℤ) (size k : ℕ) : Type 0 where
   from : atOf z ≤ k
   ends : k - atOf z + skipOf z < size
   offset : offsetAt z k ≡ pos (k - atOf z + skipOf z)
 
-over : (z : ℤ) (size k : ℕ) → covers z size k ≡ true → Over z size k
+on-cursor : (z : ℤ) (size k : ℕ) → covers z size k ≡ true → OnCursor z size k
 unfolding covers
-over z size k t =
+on-cursor z size k t =
     offset-cases z k
     (λ l e. absurd (let u = rw e at t in true≢false cc))
     (λ g e.
     let b = rw (e, le-ltb (k - atOf z + skipOf z) 0 (omega arith)) at t in
     record { from = g; ends = ltb-true (k - atOf z + skipOf z) size b; offset = e })
 
-is-over : (z : ℤ) (size k : ℕ) → atOf z ≤ k → k - atOf z + skipOf z < size → covers z size k ≡ true
+is-on-cursor : (z : ℤ) (size k : ℕ) → atOf z ≤ k → k - atOf z + skipOf z < size → covers z size k ≡ true
 unfolding covers
-is-over z size k g h =
+is-on-cursor z size k g h =
     offset-cases z k
     (λ l e. absurd (omega arith))
     (λ _ e. rw (e, le-ltb (k - atOf z + skipOf z) 0 (omega arith), lt-ltb (k - atOf z + skipOf z) size h))
 
 -- its column there is below its size
 pub covers-below : (z : ℤ) (size k : ℕ) → covers z size k ≡ true → natAbs (offsetAt z k) < size
-covers-below z size k t = let v = over z size k t in rw (v .offset) (v .ends)
+covers-below z size k t = let v = on-cursor z size k t in rw (v .offset) (v .ends)
 
 -- the span of a cursor: nothing, or from the corner on
 span-cases : (z : ℤ) (size limit : ℕ) (P : Span → Type 0) → ((limit ≤ atOf z) ⊎ (size ≤ skipOf z) → P (span 0 0 0))
@@ -84,16 +84,16 @@ module _ (z : ℤ) (size limit k : ℕ) (below : k < limit) where
   covers-span =
       span-cases z size limit (λ s. covers z size k ≡ within (s .at) (s .n) k)
       (λ o. cases (covers z size k)
-      (λ t. let v = over z size k t in absurd (⊎-elim (λ (e : limit ≤ atOf z). omega arith) (λ (e : size ≤ skipOf z). omega arith) o))
+      (λ t. let v = on-cursor z size k t in absurd (⊎-elim (λ (e : limit ≤ atOf z). omega arith) (λ (e : size ≤ skipOf z). omega arith) o))
       (λ f. f ∙ sym (within-past 0 0 k (omega arith))))
       (λ a b. same-bool _ _
-      (λ t. let v = over z size k t in within-yes _ _ k (v .from) (omega (arith, v .ends)))
-      (λ t. let i = within-in _ _ k t in is-over z size k (i .0) (omega arith)))
+      (λ t. let v = on-cursor z size k t in within-yes _ _ k (v .from) (omega (arith, v .ends)))
+      (λ t. let i = within-in _ _ k t in is-on-cursor z size k (i .0) (omega arith)))
 
   -- and there the cursor's column counts from skip on
   pub offset-span : covers z size k ≡ true → natAbs (offsetAt z k) ≡ k - spanFrom z size limit .at + spanFrom z size limit .skip
   offset-span t =
-      let v = over z size k t in
+      let v = on-cursor z size k t in
       span-cases z size limit (λ s. natAbs (offsetAt z k) ≡ k - s .at + s .skip)
       (λ o. absurd (⊎-elim (λ (e : limit ≤ atOf z). omega arith) (λ (e : size ≤ skipOf z). omega arith) o))
       (λ a b. rw (v .offset))
@@ -101,15 +101,15 @@ module _ (z : ℤ) (size limit k : ℕ) (below : k < limit) where
 -- ---- the picture
 
 -- the pixel of the cursor over place k, by the two spans
-abbrev pub seenPixel : ℕ → ℕ → Span → Span → List ℕ → ℕ → ℕ
-seenPixel width w columns lines image k = getD image (placeOf w (k % width - columns .at + columns .skip) (k / width - lines .at + lines .skip)) 0
+abbrev pub visiblePixel : ℕ → ℕ → Span → Span → List ℕ → ℕ → ℕ
+visiblePixel width w columns lines image k = getD image (placeOf w (k % width - columns .at + columns .skip) (k / width - lines .at + lines .skip)) 0
 
 -- in row j the part of the image that is lent has, over each place k of the part of the picture, the cursor's pixel
-pub row-seen : (width w : ℕ) (columns lines : Span) (image : List ℕ) (j k : ℕ) → columns .at + columns .n ≤ width
+pub row-visible : (width w : ℕ) (columns lines : Span) (image : List ℕ) (j k : ℕ) → columns .at + columns .n ≤ width
     → (lines .skip + j) * w + columns .skip + columns .n ≤ length image → within ((lines .at + j) * width + columns .at) (columns .n) k ≡ true
     → getD (midOf ((lines .skip + j) * w + columns .skip) (columns .n) image) (k - ((lines .at + j) * width + columns .at)) 0
-    ≡ seenPixel width w columns lines image k
-row-seen width w columns lines image j k across fits t =
+    ≡ visiblePixel width w columns lines image k
+row-visible width w columns lines image j k across fits t =
     let to = (lines .at + j) * width + columns .at in
     let b = within-in to (columns .n) k t in
     let r = row-in width (columns .at) (columns .n) (lines .at + j) k across t in
@@ -156,7 +156,7 @@ module _ (width rows : ℕ) (s : Shape) (x y : ℕ) (image old : List ℕ) where
 
   -- and there the cursor's pixel is that of the spans
   pub covered-pixel : 0 < width → (k : ℕ) → covered width rows s x y k ≡ true
-      → cursorPixel width s x y image k ≡ seenPixel width (s .w) columns lines image k
+      → cursorPixel width s x y image k ≡ visiblePixel width (s .w) columns lines image k
   unfolding covered cursorPixel
   covered-pixel wide k t =
       let a = both (ltb (k / width) rows) _ t in
@@ -177,15 +177,15 @@ module _ (width rows : ℕ) (s : Shape) (x y : ℕ) (image old : List ℕ) where
       known : Fit width rows s (length old) (length image)
       known = overlay-fit width rows s (length old) (length image) (sym is ∙ not-false fits t)
 
-      pub seen-inside : Inside width (c .at) (l .at) (c .n) (l .n) (length old) × Inside (s .w) (c .skip) (l .skip) (c .n) (l .n) (length image)
-      seen-inside =
+      pub visible-inside : Inside width (c .at) (l .at) (c .n) (l .n) (length old) × Inside (s .w) (c .skip) (l .skip) (c .n) (l .n) (length image)
+      visible-inside =
           let u = span-fits (cornerOf x (s .hotx)) (s .w) width in
           let v = span-fits (cornerOf y (s .hoty)) (s .h) rows in
           rw (is-c, is-l) (inside width rows _ _ _ _ _ (u .0) (v .0) (known .long), inside (s .w) (s .h) _ _ _ _ _ (u .1) (v .1) (known .whole))
 
-      pub overlay-is-seen : (new : List ℕ) → new ≡ overlaidSeen width (s .w) c l image old → new ≡ overlaid width rows s x y image old
-      unfolding overlaid overlaidSeen
-      overlay-is-seen new e =
+      pub overlay-is-visible : (new : List ℕ) → new ≡ overlaidVisible width (s .w) c l image old → new ≡ overlaid width rows s x y image old
+      unfolding overlaid overlaidVisible
+      overlay-is-visible new e =
           e ∙ rw (is-c, is-l)
           (painted-region _ _ _ old (λ k h. sym (covered-rect (known .wide) k))
           ∙ painted-same _ _ _ old (λ k h o. ap (λ (p : ℕ). blendPixel p (getD old k 0)) (sym (covered-pixel (known .wide) k o)))

@@ -10,9 +10,17 @@ use Rattle.geometry.specs.Pixels.{columnOf, rowOf, paintedIf}
 use Rattle.pixel.specs.Blend.{blendPixel}
 use Rattle.cursor.specs.declared.Shape.{Shape}
 
+-- "Cursor: w and h 1 to 64"
+abbrev pub maxSide : ℕ
+maxSide = 64
+
+-- "the cursor image (4,096)": the words of 64 by 64 pixels
+abbrev pub imageWords : ℕ
+imageWords = 4096
+
 -- "Cursor: w and h 1 to 64, hotx < w, hoty < h, else 11."
 unfoldable pub shapeGood : Shape → Bool
-shapeGood s = leb 1 (s .w) && (leb (s .w) 64 && (leb 1 (s .h) && (leb (s .h) 64 && (ltb (s .hotx) (s .w) && ltb (s .hoty) (s .h)))))
+shapeGood s = leb 1 (s .w) && (leb (s .w) maxSide && (leb 1 (s .h) && (leb (s .h) maxSide && (ltb (s .hotx) (s .w) && ltb (s .hoty) (s .h)))))
 
 -- "X and Y are read as signed 32-bit numbers"
 abbrev pub signed : ℕ → ℤ

@@ -29,9 +29,9 @@ skipOf (negsuc b) = suc b
 unfoldable pub spanFrom : ℤ → ℕ → ℕ → Span
 spanFrom corner size limit = spanAt (atOf corner) (skipOf corner) size limit
 
--- The cursor, of w columns, over a picture, by the columns and the rows that are seen.
-unfoldable pub overlaidSeen : ℕ → ℕ → Span → Span → List ℕ → List ℕ → List ℕ
-overlaidSeen width w columns lines image old =
+-- The cursor, of w columns, over a picture, by the columns and the rows that are visible.
+unfoldable pub overlaidVisible : ℕ → ℕ → Span → Span → List ℕ → List ℕ → List ℕ
+overlaidVisible width w columns lines image old =
     painted (inRect width (columns .at) (lines .at) (columns .n) (lines .n))
     (λ k. blendPixel
     (getD image (placeOf w (columnOf width k - columns .at + columns .skip) (rowOf width k - lines .at + lines .skip)) 0)

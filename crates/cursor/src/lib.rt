@@ -6,7 +6,13 @@ ghost use Rattle.geometry.specs.Pixels.{tabulate};
 ghost use Rattle.geometry.specs.Parts.{Inside};
 ghost use Rattle.pixel.specs.Blend.{blendPixel};
 ghost use Rattle.cursor.specs.Plane.{shapeGood, signed, cornerOf, overlayFits, overlaid};
-ghost use Rattle.cursor.specs.Spans.{spanAt, spanFrom, overlaidSeen};
+ghost use Rattle.cursor.specs.Spans.{spanAt, spanFrom, overlaidVisible};
+
+// The largest side of a cursor.
+pub const MAX_SIDE: u32 = 64;
+
+// The words of a cursor image: the largest cursor's pixels.
+pub const IMAGE_WORDS: usize = 4096;
 
 // A defined cursor: its id, hotspot and size.
 pub struct Shape {
@@ -38,13 +44,13 @@ pub fn shape_good(shape: Shape) -> bool
     if shape.w < 1 {
         return false;
     }
-    if 64 < shape.w {
+    if MAX_SIDE < shape.w {
         return false;
     }
     if shape.h < 1 {
         return false;
     }
-    if 64 < shape.h {
+    if MAX_SIDE < shape.h {
         return false;
     }
     if shape.w <= shape.hotx {
@@ -132,11 +138,18 @@ fn blend_row(row: &mut [u32], pixels: &[u32])
     }
 }
 
-// The columns and rows of a cursor of w columns that are seen.
-fn overlay_seen(picture: &mut [u32], width: u32, image: &[u32], w: u32, columns: Span, lines: Span)
+// The columns and rows of a cursor of w columns that are visible.
+fn overlay_visible(
+    picture: &mut [u32],
+    width: u32,
+    image: &[u32],
+    w: u32,
+    columns: Span,
+    lines: Span,
+)
     requires { ⌜ Inside width (columns .at) (lines .at) (columns .n) (lines .n) (length (now picture)) ⌝ }
     requires { ⌜ Inside w (columns .skip) (lines .skip) (columns .n) (lines .n) (length (now image)) ⌝ }
-    ensures { λ _. ⌜ now (picture .exit) ≡ overlaidSeen width w columns lines (now (image .entry)) (now (picture .entry)) ⌝ }
+    ensures { λ _. ⌜ now (picture .exit) ≡ overlaidVisible width w columns lines (now (image .entry)) (now (picture .entry)) ⌝ }
 {
     let step = width as usize;
     let pitch = w as usize;
@@ -188,5 +201,5 @@ pub fn overlay(
     }
     let columns = span_of(x, shape.hotx, shape.w, width);
     let lines = span_of(y, shape.hoty, shape.h, rows);
-    overlay_seen(picture, width, image, shape.w, columns, lines);
+    overlay_visible(picture, width, image, shape.w, columns, lines);
 }

@@ -11,13 +11,13 @@ use borrow.Table.Steps.{cases}
 use Rattle.geometry.proofs.Tests.{both}
 use Rattle.device.specs.declared.Device.{Device}
 use Rattle.device.specs.Making.{madeOf}
-use Rattle.device.specs.Device.{memoryOf, pixelsOf, widthOf, heightOf, definedOf, sizesGood, fresh, modeGood, conditionGood, definedGood, made}
+use Rattle.device.specs.Device.{memoryOf, pixelsOf, widthOf, heightOf, definedOf, sizesGood, fresh, modeGood, conditionGood, definedGood, wellFormed}
 use Rattle.device.proofs.Laws.{WellFormed}
 
 -- the converse of `well-formed`
-pub made-of : (d : Device) → WellFormed d → made d ≡ true
-unfolding made sizesGood modeGood
-made-of d w =
+pub well-formed-of : (d : Device) → WellFormed d → wellFormed d ≡ true
+unfolding wellFormed sizesGood modeGood
+well-formed-of d w =
     rw (
       eq-eqb _ _ (w .memory-words),
       le-leb _ _ (w .memory-low),
@@ -33,28 +33,28 @@ made-of d w =
     (w .defined)
 
 -- the four tests
-pub parts : (d : Device) → made d ≡ true
+pub parts : (d : Device) → wellFormed d ≡ true
     → (sizesGood (memoryOf d) (pixelsOf d) ≡ true)
     × (modeGood (widthOf d) (heightOf d) ≡ true)
     × (conditionGood (memoryOf d) (d .registers .config) (d .condition) ≡ true)
     × (definedGood (definedOf d) ≡ true)
-unfolding made
+unfolding wellFormed
 parts d m = let x = both _ _ m in let y = both _ _ (x .1) in let z = both _ _ (y .1) in (x .0, y .0, z .0, z .1)
 
 -- ---- making
 
-pub fresh-made : (memory pixels : ℕ) → sizesGood memory pixels ≡ true → made (fresh memory pixels) ≡ true
-unfolding made modeGood conditionGood definedGood
-fresh-made memory pixels e = rw e
+pub fresh-well-formed : (memory pixels : ℕ) → sizesGood memory pixels ≡ true → wellFormed (fresh memory pixels) ≡ true
+unfolding wellFormed modeGood conditionGood definedGood
+fresh-well-formed memory pixels e = rw e
 
 -- what is made is the fresh device, and well-formed
-pub make-made : (memory pixels : ℕ) (d : Device) → madeOf memory pixels .device ≡ some d → (made d ≡ true) × (d ≡ fresh memory pixels)
+pub make-well-formed : (memory pixels : ℕ) (d : Device) → madeOf memory pixels .device ≡ some d → (wellFormed d ≡ true) × (d ≡ fresh memory pixels)
 unfolding madeOf
-make-made memory pixels d e =
+make-well-formed memory pixels d e =
     cases (sizesGood memory pixels)
     (λ t.
     let m : some (fresh memory pixels) ≡ some d = rw t at e in
-    let eq : fresh memory pixels ≡ d = cc in (rw eq at (fresh-made memory pixels t), cc))
+    let eq : fresh memory pixels ≡ d = cc in (rw eq at (fresh-well-formed memory pixels t), cc))
     (λ f. let m : _≡_ {A = Option Device} none (some d) = rw f at e in absurd (true≢false cc))
 
 -- 34 exactly when M or P is none of those allowed

@@ -8,7 +8,7 @@ use native.Mathlib.Omega.{arith}
 use borrow.Author.Tests.{eqb-true, leb-true}
 use Rattle.geometry.proofs.Tests.{both}
 use Rattle.device.specs.declared.Device.{Device}
-use Rattle.device.specs.Device.{memoryOf, pixelsOf, widthOf, heightOf, definedOf, sizesGood, modeGood, conditionGood, definedGood, made}
+use Rattle.device.specs.Device.{memoryOf, pixelsOf, widthOf, heightOf, definedOf, sizesGood, modeGood, conditionGood, definedGood, wellFormed}
 
 pub record WellFormed (d : Device) : Type 0 where
   pub memory-words : memoryOf d % 4 ≡ 0
@@ -23,8 +23,8 @@ pub record WellFormed (d : Device) : Type 0 where
   pub condition : conditionGood (memoryOf d) (d .registers .config) (d .condition) ≡ true
   pub defined : definedGood (definedOf d) ≡ true
 
-pub well-formed : (d : Device) → made d ≡ true → WellFormed d
-unfolding made sizesGood modeGood
+pub well-formed : (d : Device) → wellFormed d ≡ true → WellFormed d
+unfolding wellFormed sizesGood modeGood
 well-formed d e =
     let sizes = both _ _ e in
     let words = both _ _ (sizes .0) in

@@ -3,6 +3,7 @@
 use Prim.Native.Nat.{ℕ, _*_, _/_, _%_}
 use mathlib.Core.Bool.{Bool, true, false, cond, not, _&&_}
 use lib.Dec.{eqb, leb}
+use Rattle.raster.specs.Painters as Painters
 use Rattle.ring.specs.Waiting.{placed}
 use Rattle.cursor.specs.Plane.{shapeGood}
 use Rattle.device.specs.declared.Registers.{Registers}
@@ -42,8 +43,17 @@ conditionOf d = d .condition
 -- ---- making
 
 -- "M is a multiple of 4 from 10,256 to 2,097,152; P is 1 to 4,096,000"
+abbrev pub minMemory : ℕ
+minMemory = 10256
+
+abbrev pub maxMemory : ℕ
+maxMemory = 2097152
+
+abbrev pub maxPixels : ℕ
+maxPixels = 4096000
+
 unfoldable pub sizesGood : ℕ → ℕ → Bool
-sizesGood memory pixels = eqb (memory % 4) 0 && (leb 10256 memory && (leb memory 2097152 && (leb 1 pixels && leb pixels 4096000)))
+sizesGood memory pixels = eqb (memory % 4) 0 && (leb minMemory memory && (leb memory maxMemory && (leb 1 pixels && leb pixels maxPixels)))
 
 -- "Fresh: id 0x90000000, mode 640 by 480, disabled, not configured, no fault, not busy, fence 0, other written registers 0,
 -- cursor undefined and hidden."
@@ -75,7 +85,7 @@ fresh memory pixels = record {
 
 -- "4 and 5 maximum width and height (2,560; 1,600)"
 abbrev pub maxWidth : ℕ
-maxWidth = 2560
+maxWidth = Painters.maxWidth
 
 abbrev pub maxHeight : ℕ
 maxHeight = 1600
@@ -100,8 +110,8 @@ unfolding shapeGood
 definedGood Undefined = true
 definedGood (Cursor s) = shapeGood s
 
-unfoldable pub made : Device → Bool
-made d =
+unfoldable pub wellFormed : Device → Bool
+wellFormed d =
     sizesGood (memoryOf d) (pixelsOf d)
     && (modeGood (widthOf d) (heightOf d) && (conditionGood (memoryOf d) (d .registers .config) (d .condition) && definedGood (definedOf d)))
 

@@ -1,14 +1,21 @@
 // The device: its parts, the test of a well-formed one, making.
 use cursor::Defined;
 use effect::Marks;
-use order::Cause;
+use execution::Cause;
 use ring::Ring;
 ghost use mathlib.Core.Path.{_≡_};
-ghost use Rattle.device.specs.Device.{sizesGood, modeGood, conditionGood, definedGood, made, modeFits, conditionOf};
+ghost use Rattle.device.specs.Device.{sizesGood, modeGood, conditionGood, definedGood, wellFormed, modeFits, conditionOf};
 ghost use Rattle.device.specs.Making.{creation, madeOf};
 
+// M is from MIN_MEMORY to MAX_MEMORY bytes, P at most MAX_PIXELS.
+pub const MIN_MEMORY: u32 = 10256;
+
+pub const MAX_MEMORY: u32 = 2097152;
+
+pub const MAX_PIXELS: u32 = 4096000;
+
 // The largest mode.
-pub const MAX_WIDTH: u32 = 2560;
+pub use raster::MAX_WIDTH;
 
 pub const MAX_HEIGHT: u32 = 1600;
 
@@ -68,16 +75,16 @@ fn sizes_good(memory: u32, pixels: u32) -> bool
     if memory % 4 != 0 {
         return false;
     }
-    if memory < 10256 {
+    if memory < MIN_MEMORY {
         return false;
     }
-    if 2097152 < memory {
+    if MAX_MEMORY < memory {
         return false;
     }
     if pixels < 1 {
         return false;
     }
-    pixels <= 4096000
+    pixels <= MAX_PIXELS
 }
 
 fn mode_good(width: u32, height: u32) -> bool
@@ -129,8 +136,8 @@ fn defined_good(defined: Defined) -> bool
 
 // Whether a device has what every call keeps: sizes, mode, ring, condition and cursor in their ranges and agreeing.
 // Rules out: a device with CONFIG_DONE 1 and no ring; a mode of 2,561 pixels to a row.
-pub fn is_made(d: Device) -> bool
-    ensures { λ r. ⌜ r ≡ made d ⌝ }
+pub fn is_well_formed(d: Device) -> bool
+    ensures { λ r. ⌜ r ≡ wellFormed d ⌝ }
 {
     let sizes = d.sizes;
     let good_sizes = sizes_good(sizes.memory, sizes.pixels);

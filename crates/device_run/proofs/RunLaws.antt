@@ -5,10 +5,10 @@ use mathlib.Core.Bool.{Bool, true, cond}
 use Prim.Native.Nat.{ℕ}
 use Rattle.device.specs.declared.Condition.{Condition}
 use Rattle.device.specs.declared.Device.{Device}
-use Rattle.device.specs.Device.{modeFits, made}
+use Rattle.device.specs.Device.{modeFits, wellFormed}
 use Rattle.device_run.specs.Run.{Lent, RunOutcome, lentGood, refusedRun, runBy, runOf}
 
-pub run-by : (d : Device) (l : Lent) (budget : ℕ) (c : Condition) → made d ≡ true → lentGood d l ≡ true
+pub run-by : (d : Device) (l : Lent) (budget : ℕ) (c : Condition) → wellFormed d ≡ true → lentGood d l ≡ true
     → d .registers .config ≡ true → d .registers .enable ≡ true → modeFits d ≡ true → d .condition ≡ c
     → runOf d l budget ≡ runBy d l budget c
 unfolding runOf

@@ -7,20 +7,21 @@ use lib.Dec.{eqb}
 use lib.ListN.{length}
 use denote.Ref.{RefT, now}
 use denote.Triple.Both.{Both}
-use Rattle.order.specs.declared.End.the-variants.{Drained, Waiting, Fault}
-use Rattle.order.specs.Straight.{endNumber}
-use Rattle.order.specs.Claim.{Answer, spent, standing, ended, answerNumber}
+use Rattle.execution.specs.declared.End.the-variants.{Drained, Waiting, Fault}
+use Rattle.execution.specs.Straight.{endNumber}
+use Rattle.execution.specs.Claim.{Answer, spent, standing, ended, answerNumber}
+use Rattle.cursor.specs.Plane.{imageWords}
 use Rattle.ring.specs.declared.Ring.{Ring}
 use Rattle.effect.specs.Effects.{scene, Machine}
-use Rattle.run.specs.declared.Ran as R
-use Rattle.run.specs.Run.{Outcome, outcome, machine, runIn}
+use Rattle.run.specs.declared.RingRun.{RingRun}
+use Rattle.run.specs.Run.{RingOutcome, ringOutcome, machine, runIn}
 use Rattle.device.specs.declared.Condition.{Condition}
 use Rattle.device.specs.declared.Condition.the-variants.{Idle, Running, Faulted}
 use Rattle.device.specs.declared.Device.{Device}
 use Rattle.device_run.specs.declared.Ran.{Ran}
 use Rattle.device_run.specs.declared.RunAnswer.{RunAnswer}
 use Rattle.device_run.specs.declared.RunAnswer.the-variants.{Spent, Ended, WrongLength, Disabled, NotConfigured, FaultStands, TooLarge}
-use Rattle.device.specs.Device.{memoryOf, pixelsOf, widthOf, heightOf, enabledOf, configuredOf, modeFits, made}
+use Rattle.device.specs.Device.{memoryOf, pixelsOf, widthOf, heightOf, enabledOf, configuredOf, modeFits, wellFormed}
 
 -- run: 0 drained, 1 waiting for the rest of a command, 2 budget spent, 10 to 13 a fault, 20 lent length, 21 disabled, 22 not configured, 23 fault
 -- already standing, 24 width·height above P
@@ -75,11 +76,11 @@ ranOf r l = record { answer = runNumber (r .answer); count = r .count; device = 
 unfoldable pub lentGood : Device → Lent → Bool
 lentGood d l =
     eqb (length (l .ring)) (memoryOf d / 4)
-    && (eqb (length (l .framebuffer)) (pixelsOf d) && (eqb (length (l .screen)) (pixelsOf d) && eqb (length (l .cursor)) 4096))
+    && (eqb (length (l .framebuffer)) (pixelsOf d) && (eqb (length (l .screen)) (pixelsOf d) && eqb (length (l .cursor)) imageWords))
 
 -- Whether a run is refused with neither 20, 21, 22 nor 24: what is left of its refusals is 23, a standing fault.
 unfoldable pub ready : Device → Lent → Bool
-ready d l = made d && (lentGood d l && (configuredOf d && (enabledOf d && modeFits d)))
+ready d l = wellFormed d && (lentGood d l && (configuredOf d && (enabledOf d && modeFits d)))
 
 -- "A fault consumes nothing of its command and stands until CONFIG_DONE 1 is accepted"; else the ring is remembered with STOP as the run left it.
 unfoldable pub conditionAfter : Answer → Ring → Condition
@@ -96,7 +97,7 @@ busyAfter standing busy = busy
 busyAfter (ended e) busy = false
 
 -- The device after a run.
-abbrev pub settled : Device → Outcome → Device
+abbrev pub settled : Device → RingOutcome → Device
 settled d o = record {
   sizes = d .sizes;
   registers = d .registers;
@@ -111,16 +112,16 @@ abbrev pub machineOf : Device → Lent → Machine
 machineOf d l = machine (d .marks) (l .screen) (l .cursor)
 
 -- What a run leaves of the lent memories: "framebuffer never".
-abbrev pub leftOf : Lent → Outcome → Lent
+abbrev pub leftOf : Lent → RingOutcome → Lent
 leftOf l o = lent (o .ring) (l .framebuffer) (o .machine .screen) (o .machine .cursor)
 
-abbrev pub ran : Device → Lent → Outcome → RunOutcome
+abbrev pub ran : Device → Lent → RingOutcome → RunOutcome
 ran d l o = record { answer = answerNumber (o .answer); count = o .count; device = settled d o; lent = leftOf l o }
 
 -- A run's answer and the device then, from what `run::run` gives, whatever memories it left.
-abbrev pub Settles : Device → R.Ran → Ran → Type 0
+abbrev pub Settles : Device → RingRun → Ran → Type 0
 Settles d result r =
-    (l : Lent) (ring screen cursor : List ℕ) → ranOf r (lent ring (l .framebuffer) screen cursor) ≡ ran d l (outcome result ring screen cursor)
+    (l : Lent) (ring screen cursor : List ℕ) → ranOf r (lent ring (l .framebuffer) screen cursor) ≡ ran d l (ringOutcome result ring screen cursor)
 
 module _ (d : Device) (l : Lent) where
   -- "Answers 20 to 34 change nothing; a run's count is then 0"
@@ -137,7 +138,7 @@ module _ (d : Device) (l : Lent) where
   -- "A run checks 20, 22, 21, 24, 23 in that order". A device that no call can have made answers 22.
   unfoldable pub runOf : ℕ → RunOutcome
   runOf budget =
-      cond (made d)
+      cond (wellFormed d)
       (cond (lentGood d l)
       (cond (d .registers .config)
       (cond (d .registers .enable)

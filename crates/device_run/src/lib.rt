@@ -1,12 +1,13 @@
 // A run of a device: its refusals, and what it leaves.
+use cursor::IMAGE_WORDS;
 use device::Condition;
 use device::Device;
-use device::is_made;
+use device::is_well_formed;
 use device::mode_fits;
-use order::End;
+use execution::End;
 use ring::Ring;
-use run::Answer;
-ghost use Rattle.order.specs.Claim.{ended, answerNumber};
+use run::RunEnd;
+ghost use Rattle.execution.specs.Claim.{ended, answerNumber};
 ghost use Rattle.run.specs.Run.{answerOf};
 ghost use Rattle.device.specs.declared.Condition.the-variants.{Running};
 ghost use mathlib.Core.Path.{_≡_};
@@ -38,7 +39,7 @@ pub fn run_number(answer: RunAnswer) -> u32
 {
     match answer {
         RunAnswer::Spent => 2,
-        RunAnswer::Ended(end) => order::end_number(end),
+        RunAnswer::Ended(end) => execution::end_number(end),
         RunAnswer::WrongLength => 20,
         RunAnswer::Disabled => 21,
         RunAnswer::NotConfigured => 22,
@@ -74,7 +75,7 @@ fn lent_good(d: Device, ring: &[u32], framebuffer: &[u32], screen: &[u32], curso
     if screen.len() != pixels {
         return false;
     }
-    cursor.len() == 4096
+    cursor.len() == IMAGE_WORDS
 }
 
 fn condition_at(end: End, ring: Ring) -> Condition
@@ -88,35 +89,35 @@ fn condition_at(end: End, ring: Ring) -> Condition
 }
 
 // A fault stands, or the ring is remembered with STOP as the run left it.
-fn condition_after(answer: Answer, ring: Ring) -> Condition
+fn condition_after(answer: RunEnd, ring: Ring) -> Condition
     ensures { λ r. ⌜ r ≡ conditionAfter (answerOf answer) ring ⌝ }
 {
     match answer {
-        Answer::Spent => Condition::Running(ring),
-        Answer::Ended(end) => condition_at(end, ring),
+        RunEnd::Spent => Condition::Running(ring),
+        RunEnd::Ended(end) => condition_at(end, ring),
     }
 }
 
-fn busy_after(answer: Answer, busy: bool) -> bool
+fn busy_after(answer: RunEnd, busy: bool) -> bool
     ensures { λ r. ⌜ r ≡ busyAfter (answerOf answer) busy ⌝ }
 {
     match answer {
-        Answer::Spent => busy,
-        Answer::Ended(_) => false,
+        RunEnd::Spent => busy,
+        RunEnd::Ended(_) => false,
     }
 }
 
-fn answer_of(answer: Answer) -> RunAnswer
+fn answer_of(answer: RunEnd) -> RunAnswer
     ensures { λ r. ⌜ runNumber r ≡ answerNumber (answerOf answer) ⌝ }
 {
     match answer {
-        Answer::Spent => RunAnswer::Spent,
-        Answer::Ended(end) => RunAnswer::Ended(end),
+        RunEnd::Spent => RunAnswer::Spent,
+        RunEnd::Ended(end) => RunAnswer::Ended(end),
     }
 }
 
 // The device after a run.
-fn settle(d: Device, result: run::Ran) -> Ran
+fn settle(d: Device, result: run::RingRun) -> Ran
     ensures { λ r. ⌜ Settles d result r ⌝ }
 {
     let answer = result.answer;
@@ -175,7 +176,7 @@ pub fn run(
 ) -> Ran
     ensures { λ r. ⌜ ranOf r (lentAfter ring framebuffer screen cursor) ≡ runOf d (lentBefore ring framebuffer screen cursor) budget ⌝ }
 {
-    let good = is_made(d);
+    let good = is_well_formed(d);
     if !good {
         return refused(d, RunAnswer::NotConfigured);
     }
@@ -213,7 +214,7 @@ pub fn is_ready(
 ) -> bool
     ensures { λ r. ⌜ r ≡ ready d (lentBefore ring framebuffer screen cursor) ⌝ }
 {
-    let good = is_made(d);
+    let good = is_well_formed(d);
     if !good {
         return false;
     }

@@ -10,11 +10,11 @@ use borrow.Table.Steps.{cases}
 use Rattle.geometry.proofs.Tests.{both}
 use Rattle.cursor.specs.declared.Defined.{Defined}
 use Rattle.cursor.specs.declared.Defined.the-variants.{Undefined, Cursor}
-use Rattle.order.specs.declared.Cause.the-variants.{NotOffered, BadOperand, TooLong, BadNext}
+use Rattle.execution.specs.declared.Cause.the-variants.{NotOffered, BadOperand, TooLong, BadNext}
 use Rattle.device.specs.declared.Condition.{Condition}
 use Rattle.device.specs.declared.Condition.the-variants.{Idle, Running, Faulted}
 use Rattle.device.specs.declared.Device.{Device}
-use Rattle.device.specs.Device.{made}
+use Rattle.device.specs.Device.{wellFormed}
 use Rattle.register_read.specs.Registers.{bit}
 use Rattle.device_words.specs.declared.Held.{Held}
 use Rattle.device_words.specs.declared.Held.the-variants.{Device as Holds, Nothing}
@@ -60,14 +60,14 @@ unfolding wordsOf
 words-count d = refl
 
 -- "Reading back what was written gives the same device."
-pub read-back : (d : Device) → made d ≡ true → heldIn (wordsOf d) ≡ Holds d
+pub read-back : (d : Device) → wellFormed d ≡ true → heldIn (wordsOf d) ≡ Holds d
 unfolding heldIn spelledIn
 read-back d m = rw (eq-eqb _ _ (words-count d), device-back d, same-itself (wordsOf d), m)
 
 -- Lent words that hold a device are its own 64 words, and the device is well-formed: nothing in them is left unread.
 pub record HeldBy (w : List ℕ) (d : Device) : Type 0 where
   pub count : length w ≡ 64
-  pub is-made : made d ≡ true
+  pub is-well-formed : wellFormed d ≡ true
   pub its-words : wordsOf d ≡ w
 
 none-held : (d : Device) {P : Type 0} → _≡_ {A = Held} Nothing (Holds d) → P
@@ -78,11 +78,11 @@ unfolding heldIn spelledIn
 held-words w d e =
     cases (eqb (length w) 64)
     (λ n. cases (same (wordsOf (deviceFrom w)) w)
-    (λ k. cases (made (deviceFrom w))
+    (λ k. cases (wellFormed (deviceFrom w))
     (λ m.
     let h : Holds (deviceFrom w) ≡ Holds d = rw (n, k, m) at e in
     let f : deviceFrom w ≡ d = cc in
-    record { count = eqb-true _ _ n; is-made = rw f at m; its-words = same-equal _ _ (rw f at k) })
+    record { count = eqb-true _ _ n; is-well-formed = rw f at m; its-words = same-equal _ _ (rw f at k) })
     (λ m. none-held d (rw (n, k, m) at e)))
     (λ k. none-held d (rw (n, k) at e)))
     (λ n. none-held d (rw n at e))
@@ -90,14 +90,14 @@ held-words w d e =
 -- What words spell and what they hold: the same, but for a device that no call can have made. So a call may read what they spell, if it answers for such a
 -- device what it answers for none.
 pub by-held : (w : List ℕ) (P : Held → Held → Type 0)
-    → ((d : Device) → P (Holds d) (Holds d)) → ((d : Device) → made d ≡ false → wordsOf d ≡ w → P (Holds d) Nothing) → P Nothing Nothing
+    → ((d : Device) → P (Holds d) (Holds d)) → ((d : Device) → wellFormed d ≡ false → wordsOf d ≡ w → P (Holds d) Nothing) → P Nothing Nothing
     → P (spelledIn w) (heldIn w)
 unfolding heldIn spelledIn
-by-held w P good unmade none =
+by-held w P good ill-formed none =
     cases (eqb (length w) 64)
     (λ n. cases (same (wordsOf (deviceFrom w)) w)
-    (λ k. cases (made (deviceFrom w))
+    (λ k. cases (wellFormed (deviceFrom w))
     (λ m. rw (n, k, m) (good (deviceFrom w)))
-    (λ m. rw (n, k, m) (unmade (deviceFrom w) m (same-equal _ _ k))))
+    (λ m. rw (n, k, m) (ill-formed (deviceFrom w) m (same-equal _ _ k))))
     (λ k. rw (n, k) none))
     (λ n. rw n none)

@@ -8,14 +8,14 @@ use Rattle.ring.specs.declared.Ring.{Ring}
 use Rattle.cursor.specs.declared.Shape.{Shape}
 use Rattle.cursor.specs.declared.Defined.{Defined}
 use Rattle.cursor.specs.declared.Defined.the-variants.{Undefined, Cursor}
-use Rattle.order.specs.declared.Cause.the-variants.{NotOffered, BadOperand, TooLong, BadNext}
-use Rattle.order.specs.Straight.{causeNumber}
+use Rattle.execution.specs.declared.Cause.the-variants.{NotOffered, BadOperand, TooLong, BadNext}
+use Rattle.execution.specs.Straight.{causeNumber}
 use Rattle.device.specs.declared.Registers.{Registers}
 use Rattle.device.specs.declared.Plane.{Plane}
 use Rattle.device.specs.declared.Condition.{Condition}
 use Rattle.device.specs.declared.Condition.the-variants.{Idle, Running, Faulted}
 use Rattle.device.specs.declared.Device.{Device}
-use Rattle.device.specs.Device.{made}
+use Rattle.device.specs.Device.{wellFormed}
 use Rattle.register_read.specs.Registers.{bit}
 use Rattle.device_words.specs.declared.DefinedWords.{DefinedWords}
 use Rattle.device_words.specs.declared.ConditionWords.{ConditionWords}
@@ -112,13 +112,13 @@ unfoldable pub spelledIn : List ℕ → Held
 spelledIn w = cond (eqb (length w) 64) (cond (same (wordsOf (deviceFrom w)) w) (Holds (deviceFrom w)) Nothing) Nothing
 
 -- Of devices the well-formed.
-abbrev pub wellFormed : Held → Held
-wellFormed (Holds d) = cond (made d) (Holds d) Nothing
-wellFormed Nothing = Nothing
+abbrev pub onlyWellFormed : Held → Held
+onlyWellFormed (Holds d) = cond (wellFormed d) (Holds d) Nothing
+onlyWellFormed Nothing = Nothing
 
 -- The one test of lent words: they are the words of a device, and a well-formed one. Any others hold none.
 unfoldable pub heldIn : List ℕ → Held
-heldIn w = wellFormed (spelledIn w)
+heldIn w = onlyWellFormed (spelledIn w)
 
 -- A device written into 64 lent words; any other length is left as it is.
 unfoldable pub putIn : List ℕ → Device → List ℕ

@@ -7,7 +7,7 @@ use adapter::Sizes;
 use cursor::Defined;
 use cursor::Shape;
 use effect::Marks;
-use order::Cause;
+use execution::Cause;
 use ring::Ring;
 ghost use mathlib.Core.Path.{_≡_};
 ghost use mathlib.Core.Bool.{cond};
@@ -82,7 +82,7 @@ fn condition_words(condition: Condition) -> ConditionWords
         }
         Condition::Faulted(cause) => {
             return ConditionWords {
-                tag: order::cause_number(cause),
+                tag: execution::cause_number(cause),
                 ring: none,
             };
         }

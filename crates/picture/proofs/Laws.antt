@@ -20,9 +20,9 @@ use Rattle.raster.proofs.Cuts.{Fit, rows-fit}
 use Rattle.raster.proofs.Laws.{length-updated}
 use Rattle.cursor.specs.Plane.{covered, overlayFits, overlaid}
 use Rattle.cursor.proofs.Laws.{length-overlaid}
-use Rattle.picture.specs.declared.Seen.{Seen}
-use Rattle.picture.specs.declared.Over.{Over}
-use Rattle.picture.specs.declared.Over.the-variants.{Nothing, Cursor}
+use Rattle.picture.specs.declared.VisibleCursor.{VisibleCursor}
+use Rattle.picture.specs.declared.Overlay.{Overlay}
+use Rattle.picture.specs.declared.Overlay.the-variants.{Nothing, Cursor}
 use Rattle.picture.specs.Picture.{coveredBy, pixelOver, picturePixel, composed}
 
 -- the pixels of the whole rectangle are those of the rows
@@ -48,11 +48,11 @@ module _ (width rows : ℕ) (screen image old : List ℕ) where
   -- ---- for readers
 
   -- no word is added or lost
-  pub length-composed : (over : Over) → length (composed width rows over screen image old) ≡ length old
+  pub length-composed : (over : Overlay) → length (composed width rows over screen image old) ≡ length old
   unfolding composed
   length-composed over = length-painted-if _ _ _ old
 
-  module _ (over : Over) (k : ℕ) (there : k < length old) where
+  module _ (over : Overlay) (k : ℕ) (there : k < length old) where
     -- the output behind the rows stays
     pub beyond-stays : ltb (rowOf width k) rows ≡ false → getD (composed width rows over screen image old) k 0 ≡ getD old k 0
     unfolding composed
@@ -76,7 +76,7 @@ module _ (width rows : ℕ) (screen image old : List ℕ) where
 
   -- ---- the function: where the rows do not fit, with the screen alone, and with the cursor over it
 
-  pub unlent-stays : lent width rows screen old ≡ false → (over : Over) → old ≡ composed width rows over screen image old
+  pub unlent-stays : lent width rows screen old ≡ false → (over : Overlay) → old ≡ composed width rows over screen image old
   unfolding composed
   unlent-stays unlent over = sym (refused-if _ _ _ old unlent)
 
@@ -92,7 +92,7 @@ module _ (width rows : ℕ) (screen image old : List ℕ) where
     unfolding composed picturePixel coveredBy
     bare = brought-rows ∙ sym (painted-if _ _ _ old fits)
 
-    module _ (c : Seen) where
+    module _ (c : VisibleCursor) where
       abbrev was : List ℕ
       was = brought width rows screen old
 

@@ -1,6 +1,7 @@
 // A finished picture: the screen's rows, with the cursor over them.
 use cursor::Shape;
 use geometry::Rect;
+use raster::MAX_WIDTH;
 ghost use mathlib.Core.Path.{_≡_};
 ghost use mathlib.Core.Bool.{_&&_};
 ghost use Prim.Native.Nat.{_*_};
@@ -8,16 +9,16 @@ ghost use lib.Dec.{leb};
 ghost use Rattle.raster.specs.Painters.{rowsFit};
 ghost use Rattle.picture.specs.Picture.{composed};
 
-// The cursor that is seen, at a position.
-pub struct Seen {
+// The cursor that is visible, at a position.
+pub struct VisibleCursor {
     pub shape: Shape,
     pub x: u32,
     pub y: u32,
 }
 
-pub enum Over {
+pub enum Overlay {
     Nothing,
-    Cursor(Seen),
+    Cursor(VisibleCursor),
 }
 
 // The rows lie in the output and in the screen, which have these lengths.
@@ -27,7 +28,7 @@ fn rows_lent(width: u32, rows: u32, output: usize, screen: usize) -> bool
     if width <= 0 {
         return false;
     }
-    if 2560 < width {
+    if MAX_WIDTH < width {
         return false;
     }
     let size = width as usize * rows as usize;
@@ -39,7 +40,14 @@ fn rows_lent(width: u32, rows: u32, output: usize, screen: usize) -> bool
 
 // The screen's rows in the output, and the cursor over them.
 // Rules out: the bare screen where a cursor covers it; words of the output behind the rows changed.
-pub fn compose(screen: &[u32], image: &[u32], output: &mut [u32], width: u32, rows: u32, over: Over)
+pub fn compose(
+    screen: &[u32],
+    image: &[u32],
+    output: &mut [u32],
+    width: u32,
+    rows: u32,
+    over: Overlay,
+)
     ensures { λ _. ⌜ now (output .exit) ≡ composed width rows over (now (screen .entry)) (now (image .entry)) (now (output .entry)) ⌝ }
 {
     let fits = rows_lent(width, rows, output.len(), screen.len());
@@ -59,11 +67,11 @@ pub fn compose(screen: &[u32], image: &[u32], output: &mut [u32], width: u32, ro
         },
     );
     match over {
-        Over::Nothing => {
+        Overlay::Nothing => {
             return;
         }
-        Over::Cursor(seen) => {
-            cursor::overlay(output, width, rows, image, seen.shape, seen.x, seen.y);
+        Overlay::Cursor(shown) => {
+            cursor::overlay(output, width, rows, image, shown.shape, shown.x, shown.y);
         }
     }
 }

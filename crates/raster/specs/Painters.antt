@@ -9,9 +9,13 @@ use Rattle.geometry.specs.declared.Rect.{Rect}
 use Rattle.geometry.specs.Pixels.{placeOf, columnOf, rowOf, inArea, paintedIf}
 use Rattle.pixel.specs.RasterOperation.{rasterOp}
 
+-- "WIDTH (1 to 2,560)"
+abbrev pub maxWidth : ℕ
+maxWidth = 2560
+
 -- The rows lie in a lent memory of n words, and their width is one that a mode can have. Where not, a painter changes nothing.
 unfoldable pub rowsFit : ℕ → ℕ → ℕ → Bool
-rowsFit width rows n = ltb 0 width && leb width 2560 && leb (width * rows) n
+rowsFit width rows n = ltb 0 width && leb width maxWidth && leb (width * rows) n
 
 -- "fills .. act on the screen alone": each pixel of the rectangle in the rows gets the raster operation of the colour and what stood there.
 -- A plain fill is operation 3.

@@ -11,8 +11,11 @@ ghost use lib.ListN.{length, getD};
 ghost use Rattle.geometry.specs.Pixels.{tabulate};
 ghost use Rattle.geometry.specs.Parts.{front, moved, next, Inside, Ordered, after};
 ghost use Rattle.pixel.specs.Masks.{reducePixel, mergePixel};
-ghost use Rattle.raster.specs.Painters.{rowsFit, filled, updated, copied};
+ghost use Rattle.raster.specs.Painters.{maxWidth, rowsFit, filled, updated, copied};
 ghost use Rattle.raster.specs.CutPainters.{storedIn, reducedCut, filledCut, updatedCut, movedCut, copiedCut};
+
+// The largest width of a mode, and so of a row.
+pub const MAX_WIDTH: u32 = 2560;
 
 fn rows_fit(width: u32, rows: u32, len: usize) -> bool
     ensures { λ r. ⌜ r ≡ rowsFit width rows len ⌝ }
@@ -20,7 +23,7 @@ fn rows_fit(width: u32, rows: u32, len: usize) -> bool
     if width <= 0 {
         return false;
     }
-    if 2560 < width {
+    if MAX_WIDTH < width {
         return false;
     }
     width as usize * rows as usize <= len
@@ -260,10 +263,10 @@ fn take_line(line: &mut [u32], src: &[u32])
 // One row of a plain copy, n pixels. The two parts may overlap: the source is read whole before a pixel is written.
 // It compiles to one memmove.
 fn move_row(screen: &mut [u32], from: usize, to: usize, n: usize)
-    requires { ⌜ (n ≤ 2560) × (from + n ≤ length (now screen)) × (to + n ≤ length (now screen)) ⌝ }
+    requires { ⌜ (n ≤ maxWidth) × (from + n ≤ length (now screen)) × (to + n ≤ length (now screen)) ⌝ }
     ensures { λ _. ⌜ now (screen .exit) ≡ moved from to n (λ s d. s) (now (screen .entry)) ⌝ }
 {
-    let mut line = [0u32; 2560];
+    let mut line = [0u32; MAX_WIDTH as usize];
     let e = from + n;
     take_line(&mut line, &screen[from..e]);
     let f = to + n;
@@ -304,7 +307,7 @@ fn move_back(screen: &mut [u32], from: usize, to: usize, n: usize)
 
 // One row of a plain copy, of any length.
 fn plain_row(screen: &mut [u32], from: usize, to: usize, n: usize, back: bool)
-    requires { ⌜ (n ≤ 2560) × (from + n ≤ length (now screen)) × (to + n ≤ length (now screen)) ⌝ }
+    requires { ⌜ (n ≤ maxWidth) × (from + n ≤ length (now screen)) × (to + n ≤ length (now screen)) ⌝ }
     requires { ⌜ Ordered back from to ⌝ }
     ensures { λ _. ⌜ now (screen .exit) ≡ moved from to n (λ s d. s) (now (screen .entry)) ⌝ }
 {
@@ -432,7 +435,7 @@ fn next_row(back: bool, n: usize, done: usize) -> usize
 fn move_cut(screen: &mut [u32], width: u32, sx: u32, sy: u32, area: Rect)
     requires { ⌜ Inside width (area .x) (area .y) (area .w) (area .h) (length (now screen)) ⌝ }
     requires { ⌜ Inside width sx sy (area .w) (area .h) (length (now screen)) ⌝ }
-    requires { ⌜ width ≤ 2560 ⌝ }
+    requires { ⌜ width ≤ maxWidth ⌝ }
     ensures { λ _. ⌜ now (screen .exit) ≡ movedCut width sx sy area (now (screen .entry)) ⌝ }
 {
     let up = comes_after(sx, sy, area.x, area.y);
@@ -481,7 +484,7 @@ fn merge_cut(screen: &mut [u32], width: u32, sx: u32, sy: u32, area: Rect, rop: 
 fn copy_cut(screen: &mut [u32], width: u32, sx: u32, sy: u32, area: Rect, rop: u32)
     requires { ⌜ Inside width (area .x) (area .y) (area .w) (area .h) (length (now screen)) ⌝ }
     requires { ⌜ Inside width sx sy (area .w) (area .h) (length (now screen)) ⌝ }
-    requires { ⌜ width ≤ 2560 ⌝ }
+    requires { ⌜ width ≤ maxWidth ⌝ }
     ensures { λ _. ⌜ now (screen .exit) ≡ copiedCut width sx sy area rop (now (screen .entry)) ⌝ }
 {
     if rop == 3 {

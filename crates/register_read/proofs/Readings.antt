@@ -19,11 +19,11 @@ use Rattle.register.specs.declared.ReadOnly.the-variants.{Busy}
 use Rattle.register.specs.Numbers.{numbers, registerOf}
 use Rattle.register.proofs.ByNumber.{numberOf, table, by-number, same-number}
 use Rattle.device.specs.declared.Device.{Device}
-use Rattle.device.specs.Device.{made}
-use Rattle.register_write.specs.Answers.{Outcome}
+use Rattle.device.specs.Device.{wellFormed}
+use Rattle.register_write.specs.Answers.{WriteOutcome}
 use Rattle.register_write.specs.Registers.{inRange, isId, running, effectOf, ringAsked, writableWritten, written}
 use Rattle.register_write.proofs.Effects.{is, changedBy, only-own, id-stored, id-foreign, enable-stored, enable-clears, width-stored, height-stored, config-stored, config-clears, sync-sets, sync-else, guest-id-stored, cursor-id-stored, cursor-x-stored, cursor-y-stored, cursor-on-stored, cursor-on-0, cursor-on-1, movesPlane, cursor-on-else}
-use Rattle.register_write.proofs.Kept.{Went, outside, effected, other-length, unusable, accepts, went, taken-effect, Left, same, changed, left, written-made, part-kept}
+use Rattle.register_write.proofs.Kept.{Went, outside, effected, other-length, unusable, accepts, went, taken-effect, Left, same, changed, written-left, written-well-formed, part-kept}
 use Rattle.register_read.specs.Answers.{Reading}
 use Rattle.register_read.specs.Registers.{writableValue, readOnlyValue, readBy, readOf}
 
@@ -98,20 +98,20 @@ reads-changed d e w r f =
     ∙ (stores-other (affected w) (readings d) (readings after) (numberOf r) f
     ∙ sym (read-at d r)))
 
-reads-left : (d : Device) (w : Writable) (r : Register) → affects w r ≡ false → {o : Outcome} → Left d w o → readBy (o .device) r ≡ readBy d r
+reads-left : (d : Device) (w : Writable) (r : Register) → affects w r ≡ false → {o : WriteOutcome} → Left d w o → readBy (o .device) r ≡ readBy d r
 reads-left d w r f (same a n) = refl
 reads-left d w r f (changed e q) = ap (λ (x : Device). readBy x r) q ∙ reads-changed d e w r f
 
 -- every other register reads as before
 pub leaves : (d : Device) (ring : List ℕ) (v : ℕ) (w : Writable) (r : Register) → affects w r ≡ false → readBy (writableWritten d ring v w .device) r ≡ readBy d r
-leaves d ring v w r f = reads-left d w r f (left d ring v w)
+leaves d ring v w r f = reads-left d w r f (written-left d ring v w)
 
 -- a write to i leaves what j reads, unless i is a register that affects j
-pub reads-stay : (d : Device) (ring : List ℕ) (i v j : ℕ) → made d ≡ true → ((w : Writable) → registerOf i ≡ Writes w → affects w (registerOf j) ≡ false)
+pub reads-stay : (d : Device) (ring : List ℕ) (i v j : ℕ) → wellFormed d ≡ true → ((w : Writable) → registerOf i ≡ Writes w → affects w (registerOf j) ≡ false)
     → readOf (written d ring i v .device) j ≡ readOf d j
 unfolding readOf
 reads-stay d ring i v j m apart =
-    rw (written-made d ring i v m, m)
+    rw (written-well-formed d ring i v m, m)
     (part-kept (λ (x : Device). readBy x (registerOf j)) d ring i v (λ w q e. reads-changed d e w (registerOf j) (apart w q)))
 
 -- a value that is read back once it is taken: not that of SYNC, and of ID one of the three
@@ -132,7 +132,7 @@ effect-back d v CursorX r a s = cursor-x-stored d v
 effect-back d v CursorY r a s = cursor-y-stored d v
 effect-back d v CursorOn r a s = cursor-on-stored d v
 
-went-back : (d : Device) (ring : List ℕ) (v : ℕ) (w : Writable) {o : Outcome} → Went d ring v w o → o .answer ≡ 0 → stored w v ≡ true → writableValue (o .device .registers) w ≡ v
+went-back : (d : Device) (ring : List ℕ) (v : ℕ) (w : Writable) {o : WriteOutcome} → Went d ring v w o → o .answer ≡ 0 → stored w v ≡ true → writableValue (o .device .registers) w ≡ v
 unfolding writableValue
 went-back d ring v w (outside f) z s = absurd (omega arith)
 went-back d ring v w (effected r n) z s = effect-back d v w r n s
@@ -181,21 +181,21 @@ unfolding inRange ringAsked
 off-hides d ring = rw (taken-effect d ring 0 CursorOn refl refl) (cursor-on-0 d)
 
 -- CURSOR_ON alone changes the plane, and 0 and 1 alone of its values
-abbrev pub moves : Writable → ℕ → Bool
-moves w v = is w CursorOn && movesPlane v
+abbrev pub changesPlane : Writable → ℕ → Bool
+changesPlane w v = is w CursorOn && movesPlane v
 
-effect-plane : (d : Device) (v : ℕ) (w : Writable) → moves w v ≡ false → effectOf d v w .plane ≡ d .plane
+effect-plane : (d : Device) (v : ℕ) (w : Writable) → changesPlane w v ≡ false → effectOf d v w .plane ≡ d .plane
 effect-plane d v w m =
     cases (is w CursorOn)
     (λ t. rw (same-number w CursorOn (eqb-true _ _ t)) (cursor-on-else d v (rw t at m)))
     (λ f. ap (λ (x : Device). x .plane) (only-own d v w) ∙ rw f)
 
-went-plane : (d : Device) (ring : List ℕ) (v : ℕ) (w : Writable) {o : Outcome} → Went d ring v w o → moves w v ≡ false → o .device .plane ≡ d .plane
+went-plane : (d : Device) (ring : List ℕ) (v : ℕ) (w : Writable) {o : WriteOutcome} → Went d ring v w o → changesPlane w v ≡ false → o .device .plane ≡ d .plane
 went-plane d ring v w (outside f) m = refl
 went-plane d ring v w (effected r n) m = effect-plane d v w m
 went-plane d ring v w (other-length c o n) m = refl
 went-plane d ring v w (unusable c o n u) m = refl
 went-plane d ring v w (accepts c o n u) m = refl
 
-pub others-keep-plane : (d : Device) (ring : List ℕ) (v : ℕ) (w : Writable) → moves w v ≡ false → writableWritten d ring v w .device .plane ≡ d .plane
+pub others-keep-plane : (d : Device) (ring : List ℕ) (v : ℕ) (w : Writable) → changesPlane w v ≡ false → writableWritten d ring v w .device .plane ≡ d .plane
 others-keep-plane d ring v w = went-plane d ring v w (went d ring v w)

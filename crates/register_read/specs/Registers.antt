@@ -11,7 +11,7 @@ use Rattle.register.specs.Numbers.{registerOf}
 use Rattle.device.specs.declared.Sizes.{Sizes}
 use Rattle.device.specs.declared.Registers.{Registers}
 use Rattle.device.specs.declared.Device.{Device}
-use Rattle.device.specs.Device.{widthOf, heightOf, maxWidth, maxHeight, made}
+use Rattle.device.specs.Device.{widthOf, heightOf, maxWidth, maxHeight, wellFormed}
 use Rattle.register_read.specs.Answers.{Reading}
 
 abbrev pub bit : Bool → ℕ
@@ -61,4 +61,4 @@ readBy d (Reads r) = record { answer = 0; value = readOnlyValue (d .sizes) (widt
 readBy d Absent = record { answer = 30; value = 0 }
 
 unfoldable pub readOf : Device → ℕ → Reading
-readOf d index = cond (made d) (readBy d (registerOf index)) (record { answer = 30; value = 0 })
+readOf d index = cond (wellFormed d) (readBy d (registerOf index)) (record { answer = 30; value = 0 })

@@ -3,13 +3,13 @@ use device::Device;
 use device::MAX_HEIGHT;
 use device::MAX_WIDTH;
 use device::Registers;
-use device::is_made;
+use device::is_well_formed;
 use register::ReadOnly;
 use register::Register;
 use register::Writable;
 ghost use mathlib.Core.Path.{_≡_};
 ghost use mathlib.Core.Bool.{true};
-ghost use Rattle.device.specs.Device.{made, widthOf, heightOf};
+ghost use Rattle.device.specs.Device.{wellFormed, widthOf, heightOf};
 ghost use Rattle.register_read.specs.Answers.{reading};
 ghost use Rattle.register_read.specs.Registers.{bit, writableValue, readOnlyValue, readOf};
 
@@ -46,7 +46,7 @@ fn writable_value(g: Registers, w: Writable) -> u32
 }
 
 fn read_only_value(d: Device, r: ReadOnly) -> u32
-    requires { ⌜ made d ≡ true ⌝ }
+    requires { ⌜ wellFormed d ≡ true ⌝ }
     ensures { λ v. ⌜ v ≡ readOnlyValue (d .sizes) (widthOf d) (heightOf d) (d .busy) r ⌝ }
 {
     let sizes = d.sizes;
@@ -78,7 +78,7 @@ fn read_only_value(d: Device, r: ReadOnly) -> u32
 pub fn read(d: Device, index: u32) -> Value
     ensures { λ r. ⌜ reading r ≡ readOf d index ⌝ }
 {
-    let good = is_made(d);
+    let good = is_well_formed(d);
     if !good {
         return Value::NoRegister;
     }

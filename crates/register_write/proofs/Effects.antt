@@ -17,7 +17,7 @@ use Rattle.register.proofs.ByNumber.{numberOf}
 use Rattle.device.specs.declared.Condition.{Condition}
 use Rattle.device.specs.declared.Condition.the-variants.{Idle, Running, Faulted}
 use Rattle.device.specs.declared.Device.{Device}
-use Rattle.device.specs.Device.{memoryOf, widthOf, heightOf, enabledOf, maxWidth, maxHeight, modeGood, conditionGood, made}
+use Rattle.device.specs.Device.{memoryOf, widthOf, heightOf, enabledOf, maxWidth, maxHeight, modeGood, conditionGood, wellFormed}
 use Rattle.device.proofs.Kept.{parts}
 use Rattle.register_write.specs.Registers.{inRange, isId, idWritten, enableWritten, idled, running, synced, planeOn, effectOf, ringAsked}
 
@@ -76,27 +76,27 @@ idled-good memory Idle = refl
 idled-good memory (Running g) = refl
 idled-good memory (Faulted c) = refl
 
-module _ (d : Device) (v : ℕ) (m : made d ≡ true) where
+module _ (d : Device) (v : ℕ) (m : wellFormed d ≡ true) where
   halves : (leb 1 (widthOf d) && leb (widthOf d) maxWidth ≡ true) × (leb 1 (heightOf d) && leb (heightOf d) maxHeight ≡ true)
   halves = both _ _ (rw mode-halves at (parts d m .1))
 
-  pub effect-made : (w : Writable) → inRange w v ≡ true → made (effectOf d v w) ≡ true
-  unfolding made inRange effectOf idWritten enableWritten synced
-  effect-made Id r = m
-  effect-made Enable r = m
-  effect-made Width r =
+  pub effect-well-formed : (w : Writable) → inRange w v ≡ true → wellFormed (effectOf d v w) ≡ true
+  unfolding wellFormed inRange effectOf idWritten enableWritten synced
+  effect-well-formed Id r = m
+  effect-well-formed Enable r = m
+  effect-well-formed Width r =
       let good : modeGood v (heightOf d) ≡ true = rw (mode-halves, r) (halves .1) in
       rw (parts d m .0, good, parts d m .2) (parts d m .3)
-  effect-made Height r =
+  effect-well-formed Height r =
       let good : modeGood (widthOf d) v ≡ true = rw (mode-halves, halves .0) r in
       rw (parts d m .0, good, parts d m .2) (parts d m .3)
-  effect-made ConfigDone r = rw (parts d m .0, parts d m .1, idled-good (memoryOf d) (d .condition)) (parts d m .3)
-  effect-made Sync r = m
-  effect-made GuestId r = m
-  effect-made CursorId r = m
-  effect-made CursorX r = m
-  effect-made CursorY r = m
-  effect-made CursorOn r = m
+  effect-well-formed ConfigDone r = rw (parts d m .0, parts d m .1, idled-good (memoryOf d) (d .condition)) (parts d m .3)
+  effect-well-formed Sync r = m
+  effect-well-formed GuestId r = m
+  effect-well-formed CursorId r = m
+  effect-well-formed CursorX r = m
+  effect-well-formed CursorY r = m
+  effect-well-formed CursorOn r = m
 
 -- ---- each register's own law
 

@@ -21,11 +21,11 @@ use Rattle.register.specs.declared.Writable.the-variants.{Id, Enable, Width, He
 use Rattle.register.specs.Numbers.{registerOf}
 use Rattle.register.proofs.ByNumber.{numberOf, numbered}
 use Rattle.device.specs.declared.Device.{Device}
-use Rattle.device.specs.Device.{memoryOf, conditionGood, made}
+use Rattle.device.specs.Device.{memoryOf, conditionGood, wellFormed}
 use Rattle.device.proofs.Kept.{parts}
-use Rattle.register_write.specs.Answers.{Outcome}
+use Rattle.register_write.specs.Answers.{WriteOutcome}
 use Rattle.register_write.specs.Registers.{taken, refused, inRange, effectOf, ringAsked, remembering, acceptedWritten, ringWritten, writableWritten, writtenBy, written}
-use Rattle.register_write.proofs.Effects.{changedBy, only-own, effect-made}
+use Rattle.register_write.proofs.Effects.{changedBy, only-own, effect-well-formed}
 
 -- ---- how a write goes
 
@@ -34,7 +34,7 @@ abbrev pub remembered : List ℕ → Ring
 remembered ring = record { min = minOf ring / 4; max = maxOf ring / 4; stop = stopOf ring / 4 }
 
 -- A value outside its range is refused. One in its range is taken with its effect; CONFIG_DONE 1 by the ring.
-pub data Went (d : Device) (ring : List ℕ) (v : ℕ) (w : Writable) : Outcome → Type 0 where
+pub data Went (d : Device) (ring : List ℕ) (v : ℕ) (w : Writable) : WriteOutcome → Type 0 where
   outside : inRange w v ≡ false → Went d ring v w (refused 32 d)
   effected : inRange w v ≡ true → ringAsked w v ≡ false → Went d ring v w (taken (effectOf d v w))
   other-length : w ≡ ConfigDone → v ≡ 1 → (length ring ≡ memoryOf d / 4 → ⊥) → Went d ring v w (refused 20 d)
@@ -80,7 +80,7 @@ module _ (d : Device) (ring : List ℕ) (v : ℕ) (w : Writable) where
   taken-effect r n = rw (r, n)
 
 -- What holds of every writable register's write, and of a device left as it is, holds of every write.
-module _ (P : Outcome → Type 0) (d : Device) (ring : List ℕ) (v : ℕ) (stays : (a : ℕ) → (a ≡ 0 → ⊥) → P (refused a d)) where
+module _ (P : WriteOutcome → Type 0) (d : Device) (ring : List ℕ) (v : ℕ) (stays : (a : ℕ) → (a ≡ 0 → ⊥) → P (refused a d)) where
   by-register : (r : Register) → ((w : Writable) → r ≡ Writes w → P (writableWritten d ring v w)) → P (writtenBy d ring v r)
   unfolding writtenBy
   by-register (Writes w) p = p w refl
@@ -89,10 +89,10 @@ module _ (P : Outcome → Type 0) (d : Device) (ring : List ℕ) (v : ℕ) (stay
 
   pub by-written : (index : ℕ) → ((w : Writable) → registerOf index ≡ Writes w → P (writableWritten d ring v w)) → P (written d ring index v)
   unfolding written
-  by-written index p = cases (made d) (λ m. rw m (by-register (registerOf index) p)) (λ f. rw f (stays 30 (λ z. omega arith)))
+  by-written index p = cases (wellFormed d) (λ m. rw m (by-register (registerOf index) p)) (λ f. rw f (stays 30 (λ z. omega arith)))
 
 -- a write of a well-formed device, by its number: taken with its effect, CONFIG_DONE 1 with the ring remembered
-module _ (d : Device) (ring : List ℕ) (m : made d ≡ true) where
+module _ (d : Device) (ring : List ℕ) (m : wellFormed d ≡ true) where
   pub effect-taken : (w : Writable) (v : ℕ) → inRange w v ≡ true → ringAsked w v ≡ false → written d ring (numberOf (Writes w)) v ≡ taken (effectOf d v w)
   unfolding written writtenBy
   effect-taken w v r n = rw (m, numbered (Writes w)) (taken-effect d ring v w r n)
@@ -104,39 +104,39 @@ module _ (d : Device) (ring : List ℕ) (m : made d ≡ true) where
 -- ---- what a write leaves
 
 -- A refusal leaves the device. What is taken changes the register's own parts.
-pub data Left (d : Device) (w : Writable) : Outcome → Type 0 where
+pub data Left (d : Device) (w : Writable) : WriteOutcome → Type 0 where
   same : (a : ℕ) → (a ≡ 0 → ⊥) → Left d w (refused a d)
   changed : (e : Device) → e ≡ changedBy w d e → Left d w (taken e)
 
-went-left : (d : Device) (ring : List ℕ) (v : ℕ) (w : Writable) {o : Outcome} → Went d ring v w o → Left d w o
+went-left : (d : Device) (ring : List ℕ) (v : ℕ) (w : Writable) {o : WriteOutcome} → Went d ring v w o → Left d w o
 went-left d ring v w (outside f) = same 32 (λ z. omega arith)
 went-left d ring v w (effected r n) = changed (effectOf d v w) (only-own d v w)
 went-left d ring v w (other-length c o n) = same 20 (λ z. omega arith)
 went-left d ring v w (unusable c o n u) = same 33 (λ z. omega arith)
 went-left d ring v w (accepts c o n u) = changed (remembering d (remembered ring)) (rw c)
 
-pub left : (d : Device) (ring : List ℕ) (v : ℕ) (w : Writable) → Left d w (writableWritten d ring v w)
-left d ring v w = went-left d ring v w (went d ring v w)
+pub written-left : (d : Device) (ring : List ℕ) (v : ℕ) (w : Writable) → Left d w (writableWritten d ring v w)
+written-left d ring v w = went-left d ring v w (went d ring v w)
 
 -- ---- a well-formed device stays so
 
-went-made : (d : Device) (ring : List ℕ) (v : ℕ) (w : Writable) {o : Outcome} → made d ≡ true → Went d ring v w o → made (o .device) ≡ true
-unfolding made conditionGood
-went-made d ring v w m (outside f) = m
-went-made d ring v w m (effected r n) = effect-made d v m w r
-went-made d ring v w m (other-length c o n) = m
-went-made d ring v w m (unusable c o n u) = m
-went-made d ring v w m (accepts c o n u) =
+went-well-formed : (d : Device) (ring : List ℕ) (v : ℕ) (w : Writable) {o : WriteOutcome} → wellFormed d ≡ true → Went d ring v w o → wellFormed (o .device) ≡ true
+unfolding wellFormed conditionGood
+went-well-formed d ring v w m (outside f) = m
+went-well-formed d ring v w m (effected r n) = effect-well-formed d v m w r
+went-well-formed d ring v w m (other-length c o n) = m
+went-well-formed d ring v w m (unusable c o n u) = m
+went-well-formed d ring v w m (accepts c o n u) =
     let x = parts d m in
     rw (x .0, x .1, rw n at (accepted-placed ring (remembered ring) (accepted-when ring u))) (x .3)
 
-pub written-made : (d : Device) (ring : List ℕ) (index v : ℕ) → made d ≡ true → made (written d ring index v .device) ≡ true
-written-made d ring index v m =
-    by-written (λ (o : Outcome). made (o .device) ≡ true) d ring v (λ a n. m) index (λ w q. went-made d ring v w m (went d ring v w))
+pub written-well-formed : (d : Device) (ring : List ℕ) (index v : ℕ) → wellFormed d ≡ true → wellFormed (written d ring index v .device) ≡ true
+written-well-formed d ring index v m =
+    by-written (λ (o : WriteOutcome). wellFormed (o .device) ≡ true) d ring v (λ a n. m) index (λ w q. went-well-formed d ring v w m (went d ring v w))
 
 -- ---- parts that a write keeps
 
-part-left : {A : Type 0} (part : Device → A) (d : Device) (w : Writable) {o : Outcome} → ((e : Device) → part (changedBy w d e) ≡ part d) → Left d w o
+part-left : {A : Type 0} (part : Device → A) (d : Device) (w : Writable) {o : WriteOutcome} → ((e : Device) → part (changedBy w d e) ≡ part d) → Left d w o
     → part (o .device) ≡ part d
 part-left part d w k (same a n) = refl
 part-left part d w k (changed e q) = ap part q ∙ k e
@@ -146,7 +146,7 @@ pub part-kept : {A : Type 0} (part : Device → A) (d : Device) (ring : List ℕ
     → ((w : Writable) → registerOf index ≡ Writes w → (e : Device) → part (changedBy w d e) ≡ part d)
     → part (written d ring index v .device) ≡ part d
 part-kept part d ring index v k =
-    by-written (λ (o : Outcome). part (o .device) ≡ part d) d ring v (λ a n. refl) index (λ w q. part-left part d w (k w q) (left d ring v w))
+    by-written (λ (o : WriteOutcome). part (o .device) ≡ part d) d ring v (λ a n. refl) index (λ w q. part-left part d w (k w q) (written-left d ring v w))
 
 pub sizes-kept : (d : Device) (ring : List ℕ) (index v : ℕ) → written d ring index v .device .sizes ≡ d .sizes
 sizes-kept d ring index v = part-kept (λ (e : Device). e .sizes) d ring index v (λ w q e. refl)

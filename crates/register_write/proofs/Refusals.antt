@@ -15,26 +15,26 @@ use Rattle.register.specs.declared.Writable.{Writable}
 use Rattle.register.specs.declared.Writable.the-variants.{ConfigDone}
 use Rattle.register.specs.Numbers.{registerOf}
 use Rattle.device.specs.declared.Device.{Device}
-use Rattle.device.specs.Device.{memoryOf, made}
-use Rattle.register_write.specs.Answers.{Outcome}
+use Rattle.device.specs.Device.{memoryOf, wellFormed}
+use Rattle.register_write.specs.Answers.{WriteOutcome}
 use Rattle.register_write.specs.Registers.{refused, inRange, ringAsked, acceptedWritten, ringWritten, writableWritten, writtenBy, written}
-use Rattle.register_write.proofs.Kept.{Went, outside, effected, other-length, unusable, accepts, went, by-written, Left, same, changed, left}
+use Rattle.register_write.proofs.Kept.{Went, outside, effected, other-length, unusable, accepts, went, by-written, Left, same, changed, written-left}
 
 -- ---- "Answers 20 to 34 change nothing"
 
 -- A device that no call can have made has no registers.
-pub unmade-write : (d : Device) (ring : List ℕ) (index v : ℕ) → made d ≡ false → written d ring index v ≡ refused 30 d
+pub ill-formed-write : (d : Device) (ring : List ℕ) (index v : ℕ) → wellFormed d ≡ false → written d ring index v ≡ refused 30 d
 unfolding written
-unmade-write d ring index v f = rw f
+ill-formed-write d ring index v f = rw f
 
-left-refused : (d : Device) (w : Writable) {o : Outcome} → Left d w o → (o .answer ≡ 0 → ⊥) → o .device ≡ d
+left-refused : (d : Device) (w : Writable) {o : WriteOutcome} → Left d w o → (o .answer ≡ 0 → ⊥) → o .device ≡ d
 left-refused d w (same a n) z = refl
 left-refused d w (changed e q) z = absurd (z refl)
 
 pub refused-changes-nothing : (d : Device) (ring : List ℕ) (index v : ℕ) → (written d ring index v .answer ≡ 0 → ⊥)
     → written d ring index v .device ≡ d
 refused-changes-nothing d ring index v =
-    by-written (λ (o : Outcome). (o .answer ≡ 0 → ⊥) → o .device ≡ d) d ring v (λ a n z. refl) index (λ w q. left-refused d w (left d ring v w))
+    by-written (λ (o : WriteOutcome). (o .answer ≡ 0 → ⊥) → o .device ≡ d) d ring v (λ a n z. refl) index (λ w q. left-refused d w (written-left d ring v w))
 
 -- ---- the answers of a write
 
@@ -62,7 +62,7 @@ module _ (d : Device) (ring : List ℕ) (v : ℕ) (index : ℕ) where
   unfolding ringAsked
   one-asks w c o = rw (c, o)
 
-  why-writes : (w : Writable) → registerOf index ≡ Writes w → {o : Outcome} → Went d ring v w o → Why d ring index v (o .answer)
+  why-writes : (w : Writable) → registerOf index ≡ Writes w → {o : WriteOutcome} → Went d ring v w o → Why d ring index v (o .answer)
   why-writes w e (outside f) = bad-value w e f
   why-writes w e (effected t n) = is-taken w e t (λ c o. absurd (not-both n (one-asks w c o)))
   why-writes w e (other-length c o n) = wrong-length (rw c at e) o n
@@ -77,7 +77,7 @@ module _ (d : Device) (ring : List ℕ) (v : ℕ) (index : ℕ) where
 
   takes-value : (w : Writable) → inRange w v ≡ true
       → (w ≡ ConfigDone → v ≡ 1 → (length ring ≡ memoryOf d / 4) × (usable ring ≡ true))
-      → {o : Outcome} → Went d ring v w o → o .answer ≡ 0
+      → {o : WriteOutcome} → Went d ring v w o → o .answer ≡ 0
   takes-value w t r (outside f) = absurd (not-both f t)
   takes-value w t r (effected k n) = refl
   takes-value w t r (other-length c o n) = absurd (n (r c o .0))
@@ -85,12 +85,12 @@ module _ (d : Device) (ring : List ℕ) (v : ℕ) (index : ℕ) where
   takes-value w t r (accepts c o n u) = refl
 
 -- A number comes only where its rule holds,
-pub why : (d : Device) (ring : List ℕ) (index v : ℕ) → made d ≡ true → Why d ring index v (written d ring index v .answer)
+pub why : (d : Device) (ring : List ℕ) (index v : ℕ) → wellFormed d ≡ true → Why d ring index v (written d ring index v .answer)
 unfolding written
 why d ring index v m = rw m (why-by d ring v index (registerOf index) refl)
 
 -- and it comes wherever its rule holds.
-pub only : (d : Device) (ring : List ℕ) (index v : ℕ) → made d ≡ true → (a : ℕ) → Why d ring index v a
+pub only : (d : Device) (ring : List ℕ) (index v : ℕ) → wellFormed d ≡ true → (a : ℕ) → Why d ring index v a
     → written d ring index v .answer ≡ a
 unfolding written writtenBy writableWritten inRange ringAsked ringWritten acceptedWritten
 only d ring index v m a (no-register e) = rw (m, e)

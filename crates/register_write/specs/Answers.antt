@@ -15,9 +15,9 @@ writeNumber BadValue = 32
 writeNumber RingRefused = 33
 
 -- A register write answers a number and leaves a device.
-pub record Outcome : Type 0 where
+pub record WriteOutcome : Type 0 where
   pub answer : ℕ
   pub device : Device
 
-abbrev pub outcome : Written → Outcome
-outcome w = record { answer = writeNumber (w .answer); device = w .device }
+abbrev pub writeOutcome : Written → WriteOutcome
+writeOutcome w = record { answer = writeNumber (w .answer); device = w .device }

@@ -18,14 +18,14 @@ use Rattle.device.specs.declared.Plane.{Plane}
 use Rattle.device.specs.declared.Condition.{Condition}
 use Rattle.device.specs.declared.Condition.the-variants.{Idle, Running, Faulted}
 use Rattle.device.specs.declared.Device.{Device}
-use Rattle.device.specs.Device.{memoryOf, widthOf, heightOf, maxWidth, maxHeight, made, withRegisters, withPlane, withBusy, withCondition}
-use Rattle.register_write.specs.Answers.{Outcome}
+use Rattle.device.specs.Device.{memoryOf, widthOf, heightOf, maxWidth, maxHeight, wellFormed, withRegisters, withPlane, withBusy, withCondition}
+use Rattle.register_write.specs.Answers.{WriteOutcome}
 
-abbrev pub taken : Device → Outcome
+abbrev pub taken : Device → WriteOutcome
 taken d = record { answer = 0; device = d }
 
 -- "Answers 20 to 34 change nothing"
-abbrev pub refused : ℕ → Device → Outcome
+abbrev pub refused : ℕ → Device → WriteOutcome
 refused answer d = record { answer = answer; device = d }
 
 -- The registers with the mode, with id, ENABLE and CONFIG_DONE, or with the others changed.
@@ -202,25 +202,25 @@ abbrev pub remembering : Device → Ring → Device
 remembering d g = withCondition (configured d true) (Running g)
 
 -- "else 33"
-unfoldable pub acceptedWritten : Device → Acceptance → Outcome
+unfoldable pub acceptedWritten : Device → Acceptance → WriteOutcome
 acceptedWritten d (Accepted g) = taken (remembering d g)
 acceptedWritten d Refused = refused 33 d
 
 -- "CONFIG_DONE 1: first 32, then 20, then 33."
-unfoldable pub ringWritten : Device → List ℕ → Outcome
+unfoldable pub ringWritten : Device → List ℕ → WriteOutcome
 ringWritten d ring = cond (eqb (length ring) (memoryOf d / 4)) (acceptedWritten d (accepted ring)) (refused 20 d)
 
 -- ---- the rule
 
 -- a value in its range is taken with its effect, CONFIG_DONE 1 if its ring is accepted; "A value outside these is 32"
-unfoldable pub writableWritten : Device → List ℕ → ℕ → Writable → Outcome
+unfoldable pub writableWritten : Device → List ℕ → ℕ → Writable → WriteOutcome
 writableWritten d ring v w = cond (inRange w v) (cond (ringAsked w v) (ringWritten d ring) (taken (effectOf d v w))) (refused 32 d)
 
 -- "A register write checks 30, 31, 32."
-unfoldable pub writtenBy : Device → List ℕ → ℕ → Register → Outcome
+unfoldable pub writtenBy : Device → List ℕ → ℕ → Register → WriteOutcome
 writtenBy d ring v (Writes w) = writableWritten d ring v w
 writtenBy d ring v (Reads r) = refused 31 d
 writtenBy d ring v Absent = refused 30 d
 
-unfoldable pub written : Device → List ℕ → ℕ → ℕ → Outcome
-written d ring index v = cond (made d) (writtenBy d ring v (registerOf index)) (refused 30 d)
+unfoldable pub written : Device → List ℕ → ℕ → ℕ → WriteOutcome
+written d ring index v = cond (wellFormed d) (writtenBy d ring v (registerOf index)) (refused 30 d)

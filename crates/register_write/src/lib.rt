@@ -5,14 +5,14 @@ use device::MAX_HEIGHT;
 use device::MAX_WIDTH;
 use device::Plane;
 use device::Registers;
-use device::is_made;
+use device::is_well_formed;
 use register::Register;
 use register::Writable;
 use ring::Acceptance;
 ghost use mathlib.Core.Path.{_≡_};
 ghost use mathlib.Core.Bool.{_&&_};
 ghost use lib.Dec.{leb};
-ghost use Rattle.register_write.specs.Answers.{writeNumber, outcome};
+ghost use Rattle.register_write.specs.Answers.{writeNumber, writeOutcome};
 ghost use Rattle.register_write.specs.Registers.{inRange, idWritten, enableWritten, widthWritten, heightWritten, idled, unconfigured, running, synced, guestIdWritten, cursorIdWritten, cursorXWritten, cursorYWritten, planeOn, cursorOnWritten, effectOf, ringAsked, acceptedWritten, ringWritten, writableWritten, written};
 
 pub enum WriteAnswer {
@@ -313,7 +313,7 @@ fn ring_asked(w: Writable, value: u32) -> bool
 
 // Ring words that are accepted or refused.
 fn configure(d: Device, acceptance: Acceptance) -> Written
-    ensures { λ r. ⌜ outcome r ≡ acceptedWritten d acceptance ⌝ }
+    ensures { λ r. ⌜ writeOutcome r ≡ acceptedWritten d acceptance ⌝ }
 {
     let g = d.registers;
     match acceptance {
@@ -337,7 +337,7 @@ fn configure(d: Device, acceptance: Acceptance) -> Written
 }
 
 fn write_ring(d: Device, ring: &[u32]) -> Written
-    ensures { λ r. ⌜ outcome r ≡ ringWritten d (now (ring .entry)) ⌝ }
+    ensures { λ r. ⌜ writeOutcome r ≡ ringWritten d (now (ring .entry)) ⌝ }
 {
     let sizes = d.sizes;
     let words = (sizes.memory / 4) as usize;
@@ -353,7 +353,7 @@ fn write_ring(d: Device, ring: &[u32]) -> Written
 // ---- writing a register
 
 fn write_writable(d: Device, ring: &[u32], w: Writable, value: u32) -> Written
-    ensures { λ r. ⌜ outcome r ≡ writableWritten d (now (ring .entry)) value w ⌝ }
+    ensures { λ r. ⌜ writeOutcome r ≡ writableWritten d (now (ring .entry)) value w ⌝ }
 {
     let good = in_range(w, value);
     if !good {
@@ -375,9 +375,9 @@ fn write_writable(d: Device, ring: &[u32], w: Writable, value: u32) -> Written
 // A register write. The ring is looked at by CONFIG_DONE 1 only.
 // Rules out: a refused write that changes the device; 32 for a read-only register; a refused ring that clears a fault.
 pub fn write(d: Device, ring: &[u32], index: u32, value: u32) -> Written
-    ensures { λ r. ⌜ outcome r ≡ written d (now (ring .entry)) index value ⌝ }
+    ensures { λ r. ⌜ writeOutcome r ≡ written d (now (ring .entry)) index value ⌝ }
 {
-    let good = is_made(d);
+    let good = is_well_formed(d);
     if !good {
         return Written {
             answer: WriteAnswer::NoRegister,

@@ -20,13 +20,24 @@ nextOf ring = getD ring 2 0
 abbrev pub stopOf : List ℕ → ℕ
 stopOf ring = getD ring 3 0
 
+-- "M is a multiple of 4 from 10,256 to 2,097,152": the largest ring memory, in words
+abbrev pub maxWords : ℕ
+maxWords = 524288
+
+-- "MAX − MIN ≥ 10,240": the least size of a ring, in bytes and in words
+abbrev pub leastBytes : ℕ
+leastBytes = 10240
+
+abbrev pub leastWords : ℕ
+leastWords = 2560
+
 -- "All are multiples of 4; .. NEXT_CMD and STOP lie from MIN to below MAX"
 unfoldable pub offsetUsable : ℕ → ℕ → ℕ → Bool
 offsetUsable min max offset = eqb (offset % 4) 0 && (leb min offset && ltb offset max)
 
 -- "All are multiples of 4; MIN ≥ 16; MAX ≤ M; MAX − MIN ≥ 10,240". M is four times the words of the ring memory.
 unfoldable pub boundsUsable : ℕ → ℕ → ℕ → Bool
-boundsUsable words min max = eqb (min % 4) 0 && (eqb (max % 4) 0 && (leb 16 min && (leb max (4 * words) && leb (min + 10240) max)))
+boundsUsable words min max = eqb (min % 4) 0 && (eqb (max % 4) 0 && (leb 16 min && (leb max (4 * words) && leb (min + leastBytes) max)))
 
 unfoldable pub usable : List ℕ → Bool
 usable ring =

@@ -5,6 +5,7 @@ use Prim.Native.Nat.{ℕ, zero, suc, _+_, _-_, _/_, _%_}
 use lib.ListN.{getD}
 use lib.Dec.{eqb, ltb, leb}
 use Rattle.ring.specs.declared.Ring.{Ring}
+use Rattle.ring.specs.Acceptance.{leastWords}
 
 -- "Words wrap from MAX to MIN": the place after p
 unfoldable pub after : ℕ → ℕ → ℕ → ℕ
@@ -35,7 +36,7 @@ carried lo hi = hi - lo - 1
 -- from MIN to below MAX", all in words.
 unfoldable pub placed : Ring → ℕ → Bool
 placed g words =
-    leb 4 (g .min) && (leb (g .max) words && (leb (g .min + 2560) (g .max) && (leb (g .min) (g .stop) && ltb (g .stop) (g .max))))
+    leb 4 (g .min) && (leb (g .max) words && (leb (g .min + leastWords) (g .max) && (leb (g .min) (g .stop) && ltb (g .stop) (g .max))))
 
 -- "NEXT_CMD not a multiple of 4 or outside the ring: 13."
 unfoldable pub nextGood : Ring → ℕ → Bool

@@ -6,6 +6,14 @@ ghost use Rattle.ring.specs.Acceptance.{offsetUsable, boundsUsable, usab
 ghost use Rattle.ring.specs.Waiting.{placed, nextGood};
 ghost use Rattle.ring.specs.Append.{movedOn, appendNumber, appended, appendOf};
 
+// The largest ring memory, in words.
+pub const MAX_WORDS: u32 = 524288;
+
+// The least size of a ring, in bytes and in words.
+pub const LEAST_BYTES: u64 = 10240;
+
+pub const LEAST_WORDS: u64 = 2560;
+
 // The remembered ring, in words of the ring memory: from min to below max, the next command at stop.
 pub struct Ring {
     pub min: u32,
@@ -60,7 +68,7 @@ fn bounds_usable(words: usize, min: u32, max: u32) -> bool
     if words < (max / 4) as usize {
         return false;
     }
-    min as u64 + 10240 <= max as u64
+    min as u64 + LEAST_BYTES <= max as u64
 }
 
 // Whether ring words 0 to 3 describe a ring in this memory.
@@ -111,7 +119,7 @@ pub fn is_placed(g: Ring, words: usize) -> bool
     if words < g.max as usize {
         return false;
     }
-    if (g.max as u64) < g.min as u64 + 2560 {
+    if (g.max as u64) < g.min as u64 + LEAST_WORDS {
         return false;
     }
     if g.stop < g.min {

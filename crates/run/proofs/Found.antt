@@ -11,7 +11,7 @@ use lib.ListN.{length, take, drop}
 use lib.Seq.{take-take}
 use borrow.Author.Tests.{leb-true}
 use Rattle.geometry.proofs.Tests.{both}
-use Rattle.order.specs.Straight.{Turn, ends, exec}
+use Rattle.execution.specs.Straight.{Turn, ends, exec}
 use Rattle.cursor.specs.declared.Shape.{Shape}
 use Rattle.cursor.specs.Plane.{shapeGood}
 use Rattle.command.specs.declared.Action.{Action}

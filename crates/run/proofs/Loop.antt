@@ -12,13 +12,13 @@ use lib.Seq.{drop-drop, drop-append-le, length-take-le}
 use mathlib.Core.Logic.{_≢_}
 use borrow.Author.Tests.{ltb-true, ltb-false, lt-ltb, le-ltb, eqb-true, eqb-false, eq-eqb, ne-eqb}
 use borrow.Table.Steps.{cases}
-use Rattle.order.specs.declared.End.{End}
-use Rattle.order.specs.Straight.{Line, ends, exec}
-use Rattle.order.specs.Straight as O
-use Rattle.order.specs.Table.{turnOf}
-use Rattle.order.specs.Claim as Claim
-use Rattle.order.specs.Queue.{Ran, runs}
-use Rattle.order.proofs.QueueLaws.{runs-ends, runs-exec}
+use Rattle.execution.specs.declared.End.{End}
+use Rattle.execution.specs.Straight.{Line, ends, exec}
+use Rattle.execution.specs.Straight as O
+use Rattle.execution.specs.Table.{turnOf}
+use Rattle.execution.specs.Claim as Claim
+use Rattle.execution.specs.Queue.{LineRun, runs}
+use Rattle.execution.proofs.QueueLaws.{runs-ends, runs-exec}
 use Rattle.ring.specs.Waiting.{ahead, words, carried}
 use Rattle.ring.proofs.WaitingLaws.{InRing, ahead-in, ahead-zero, length-words, take-words, drop-words, words-outside}
 use Rattle.cursor.specs.declared.Defined.{Defined}
@@ -220,7 +220,7 @@ module _ {s : Scene} {budget : ℕ} {v₀ : View} {ring₀ : List ℕ} {m₀ : M
         still = λ e. let a = g .still (omega (arith, f .bounded, g .bounded)) in let b = f .still (omega (arith, f .bounded, g .bounded)) in omega arith;
         view = f .view ∙ ap (λ (x : View). passedIn x (f .gone)) (g .view) ∙ passed-passed v₀ (g .gone) (f .gone) (inside .from) (inside .below) (omega (arith, inside .held));
         memory = stamped-further budget left k (v .at) (to .at) ring₀ ring later (g .bounded) (f .bounded) (λ z. ap (λ (x : View). x .at) (none (f .still z))) (g .memory) (f .memory);
-        rest = g .rest ∙ ap (λ (r : Ran Machine). plus (budget - left) r) there ∙ plus-plus (budget - left) (left - k) (budget - k) _ together
+        rest = g .rest ∙ ap (λ (r : LineRun Machine). plus (budget - left) r) there ∙ plus-plus (budget - left) (left - k) (budget - k) _ together
             ∙ ap (λ (w : List ℕ). plus (budget - k) (runs (turn s v₀) k (line w after))) (drop-drop (f .gone) (g .gone) (wordsIn ring₀ v₀));
       }
 

@@ -12,11 +12,11 @@ use lib.ListN.{length, take, drop, length-drop, length-set}
 use lib.Seq.{take-nil, drop-drop, drop-append-le, drop-set-lt, length-take-le}
 use borrow.Author.Tests.{ne-eqb, eq-eqb}
 use borrow.Table.Steps.{cases}
-use Rattle.order.specs.declared.Cause.{Cause}
-use Rattle.order.specs.Straight.{Line, exec}
-use Rattle.order.specs.Table.{turnOf}
-use Rattle.order.specs.Queue.{Ran, runs}
-use Rattle.order.proofs.QueueLaws.{runs-exec}
+use Rattle.execution.specs.declared.Cause.{Cause}
+use Rattle.execution.specs.Straight.{Line, exec}
+use Rattle.execution.specs.Table.{turnOf}
+use Rattle.execution.specs.Queue.{LineRun, runs}
+use Rattle.execution.proofs.QueueLaws.{runs-exec}
 use Rattle.cursor.specs.declared.Defined.{Defined}
 use Rattle.command.specs.declared.Action.{Action}
 use Rattle.command.specs.declared.Action.the-variants as A

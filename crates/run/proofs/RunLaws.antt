@@ -9,14 +9,14 @@ use lib.Dec.{leb}
 use lib.ListN.{length}
 use borrow.Author.Tests.{ne-eqb, eqb-true, leb-true}
 use Rattle.geometry.proofs.Tests.{both}
-use Rattle.order.specs.declared.End.the-variants.{Fault}
-use Rattle.order.specs.declared.Cause.the-variants.{BadNext}
-use Rattle.order.specs.Straight as O
-use Rattle.order.specs.Straight.{ends}
-use Rattle.order.specs.Table.{turnOf, unless}
-use Rattle.order.specs.Claim as Claim
-use Rattle.order.specs.Queue.{runs}
-use Rattle.order.proofs.QueueLaws.{runs-ends}
+use Rattle.execution.specs.declared.End.the-variants.{Fault}
+use Rattle.execution.specs.declared.Cause.the-variants.{BadNext}
+use Rattle.execution.specs.Straight as O
+use Rattle.execution.specs.Straight.{ends}
+use Rattle.execution.specs.Table.{turnOf, unless}
+use Rattle.execution.specs.Claim as Claim
+use Rattle.execution.specs.Queue.{runs}
+use Rattle.execution.proofs.QueueLaws.{runs-ends}
 use Rattle.ring.specs.declared.Ring.{Ring}
 use Rattle.ring.specs.Acceptance.{nextOf}
 use Rattle.ring.specs.Waiting.{ahead, waiting, carried, placed, nextGood}
@@ -25,7 +25,7 @@ use Rattle.ring.proofs.WaitingLaws.{ahead-zero}
 use Rattle.effect.specs.Effects.{Scene, Machine}
 use Rattle.run.specs.declared.View.{View}
 use Rattle.run.specs.Turns.{Stands, wordsIn, viewOf}
-use Rattle.run.specs.Run.{table, placeOf, turnIn, left, runWords, lost, fitting, runIn}
+use Rattle.run.specs.Run.{table, placeOf, turnIn, left, runWords, nextUnusable, fitting, runIn}
 use Rattle.run.proofs.Laws.{next-says, in-view}
 
 -- where the tests of lengths fail
@@ -49,23 +49,23 @@ left-same g ring words a m h =
     λ i. record { answer = a; count = 0; place = record { min = g .min; max = g .max; stop = same i }; ring = ring; machine = m }
 
 -- NEXT_CMD unusable
-turn-lost : (s : Scene) (g : Ring) (next : ℕ) (m : Machine) (w : List ℕ) → nextGood g next ≡ false → turnIn s g next m w ≡ ends (Fault BadNext)
+turn-next-unusable : (s : Scene) (g : Ring) (next : ℕ) (m : Machine) (w : List ℕ) → nextGood g next ≡ false → turnIn s g next m w ≡ ends (Fault BadNext)
 unfolding turnIn unless
-turn-lost s g next m w e = rw e
+turn-next-unusable s g next m w e = rw e
 
-runs-lost : (s : Scene) (g : Ring) (next budget : ℕ) (m : Machine) (w : List ℕ) → nextGood g next ≡ false
-    → runs (turnIn s g next) budget (record { words = w; machine = m }) ≡ record { answer = lost budget; count = 0; line = record { words = w; machine = m } }
-unfolding runs lost
-runs-lost s g next zero m w e = refl
-runs-lost s g next (suc b) m w e =
-    runs-ends (turnIn s g next) b (record { words = w; machine = m }) (Fault BadNext) (turn-lost s g next m w e) ∙ rw (ne-eqb (suc b) 0 (omega arith))
+runs-next-unusable : (s : Scene) (g : Ring) (next budget : ℕ) (m : Machine) (w : List ℕ) → nextGood g next ≡ false
+    → runs (turnIn s g next) budget (record { words = w; machine = m }) ≡ record { answer = nextUnusable budget; count = 0; line = record { words = w; machine = m } }
+unfolding runs nextUnusable
+runs-next-unusable s g next zero m w e = refl
+runs-next-unusable s g next (suc b) m w e =
+    runs-ends (turnIn s g next) b (record { words = w; machine = m }) (Fault BadNext) (turn-next-unusable s g next m w e) ∙ rw (ne-eqb (suc b) 0 (omega arith))
 
-pub run-lost : (s : Scene) (g : Ring) (budget : ℕ) (ring : List ℕ) (m : Machine) → fitting g (length ring) (length (m .cursor)) ≡ true → nextGood g (nextOf ring) ≡ false
-    → runIn s g budget ring m ≡ record { answer = lost budget; count = 0; place = g; ring = ring; machine = m }
+pub run-next-unusable : (s : Scene) (g : Ring) (budget : ℕ) (ring : List ℕ) (m : Machine) → fitting g (length ring) (length (m .cursor)) ≡ true → nextGood g (nextOf ring) ≡ false
+    → runIn s g budget ring m ≡ record { answer = nextUnusable budget; count = 0; place = g; ring = ring; machine = m }
 unfolding runIn runWords
-run-lost s g budget ring m fits bad =
+run-next-unusable s g budget ring m fits bad =
     let p = placed-when g (length ring) (fitting-placed g _ _ fits) in
-    rw (fits, runs-lost s g (nextOf ring) budget m _ bad) (left-same g ring _ _ m (p .below))
+    rw (fits, runs-next-unusable s g (nextOf ring) budget m _ bad) (left-same g ring _ _ m (p .below))
 
 -- NEXT_CMD usable: the turn is straight execution's
 pub turn-kept : (s : Scene) (g : Ring) (next : ℕ) → nextGood g next ≡ true → turnIn s g next ≡ turnOf (carried (g .min) (g .max)) (table s)

@@ -10,14 +10,14 @@ use lib.ListN.{length, take, drop, getD, length-drop, length-append, take-append
 use lib.Seq.{getD-take, take-all, length-take-le}
 use borrow.Author.Tests.{ltb-true, ltb-false}
 use borrow.Table.Steps.{cases}
-use Rattle.order.specs.declared.Cause.{Cause}
-use Rattle.order.specs.declared.End.{End}
-use Rattle.order.specs.declared.End.the-variants.{Drained, Waiting, Fault}
-use Rattle.order.specs.Straight.{Line, Turn, ends, exec}
-use Rattle.order.specs.Claim as Claim
-use Rattle.order.specs.Queue.{Ran, runs}
-use Rattle.order.proofs.QueueLaws.{runs-ends, runs-exec}
-use Rattle.order.specs.Table.{turnOf}
+use Rattle.execution.specs.declared.Cause.{Cause}
+use Rattle.execution.specs.declared.End.{End}
+use Rattle.execution.specs.declared.End.the-variants.{Drained, Waiting, Fault}
+use Rattle.execution.specs.Straight.{Line, Turn, ends, exec}
+use Rattle.execution.specs.Claim as Claim
+use Rattle.execution.specs.Queue.{LineRun, runs}
+use Rattle.execution.proofs.QueueLaws.{runs-ends, runs-exec}
+use Rattle.execution.specs.Table.{turnOf}
 use Rattle.ring.specs.Waiting.{ahead, carried}
 use Rattle.ring.proofs.WaitingLaws.{ahead-in, length-words}
 use Rattle.cursor.specs.declared.Defined.{Defined}
@@ -123,11 +123,11 @@ module _ (t : Machine → List ℕ → Turn Machine) where
   unfolding runs
   one-spent a l m q (ends e) h = absurd (differ (sym (runs-ends t 0 a e h) ∙ q))
     where
-      differ : (_≡_ {A = Ran Machine} (record { answer = Claim.ended e; count = 0; line = a }) (record { answer = Claim.spent; count = 1; line = line l m })) → ⊥
-      differ p = let z : _≡_ {A = ℕ} 0 1 = ap (λ (r : Ran Machine). r .count) p in omega arith
+      differ : (_≡_ {A = LineRun Machine} (record { answer = Claim.ended e; count = 0; line = a }) (record { answer = Claim.spent; count = 1; line = line l m })) → ⊥
+      differ p = let z : _≡_ {A = ℕ} 0 1 = ap (λ (r : LineRun Machine). r .count) p in omega arith
   one-spent a l m q (exec n u) h =
       let p = sym (runs-exec t 0 a n u h) ∙ q in
-      (n, (ap (exec n) (ap (λ (r : Ran Machine). r .line .machine) p), ap (λ (r : Ran Machine). r .line .words) p))
+      (n, (ap (exec n) (ap (λ (r : LineRun Machine). r .line .machine) p), ap (λ (r : LineRun Machine). r .line .words) p))
 
 module _ (s : Scene) (v : View) (ring : List ℕ) (inside : InView v (length ring)) (carries : 10 + v .lo < v .hi)
     {memory : List ℕ} {e : ℕ} (l : LineOf (wordsIn ring v) memory e)

@@ -6,12 +6,12 @@ use mathlib.Core.List.{List, _++_}
 use Prim.Native.Nat.{ℕ, _+_, _-_, _≤_}
 use lib.Dec.{eqb}
 use lib.ListN.{drop}
-use Rattle.order.specs.declared.Cause.{Cause}
-use Rattle.order.specs.declared.End.{End}
-use Rattle.order.specs.Straight.{Line, ends, exec}
-use Rattle.order.specs.Straight as O
-use Rattle.order.specs.Table.{turnOf}
-use Rattle.order.specs.Queue.{Ran, runs}
+use Rattle.execution.specs.declared.Cause.{Cause}
+use Rattle.execution.specs.declared.End.{End}
+use Rattle.execution.specs.Straight.{Line, ends, exec}
+use Rattle.execution.specs.Straight as O
+use Rattle.execution.specs.Table.{turnOf}
+use Rattle.execution.specs.Queue.{LineRun, runs}
 use Rattle.ring.specs.Waiting.{carried}
 use Rattle.cursor.specs.declared.Defined.{Defined}
 use Rattle.command.specs.declared.Data.{Data}
@@ -30,7 +30,7 @@ use Rattle.run.specs.Turns.{wordsIn, passedIn, rowIn}
 use Rattle.run.specs.Run.{machine, table, stamped}
 
 -- So many commands before a run.
-abbrev pub plus : ℕ → Ran Machine → Ran Machine
+abbrev pub plus : ℕ → LineRun Machine → LineRun Machine
 plus k r = record { answer = r .answer; count = k + r .count; line = r .line }
 
 abbrev pub line : List ℕ → Machine → Line Machine

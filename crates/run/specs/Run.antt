@@ -4,23 +4,24 @@ use mathlib.Core.Bool.{Bool, cond, _&&_}
 use mathlib.Core.List.{List}
 use lib.Dec.{eqb, leb}
 use lib.ListN.{length, set}
-use Rattle.order.specs.declared.End.the-variants.{Fault}
-use Rattle.order.specs.declared.Cause.the-variants.{BadNext}
-use Rattle.order.specs.Straight.{ends}
-use Rattle.order.specs.Straight as O
-use Rattle.order.specs.Table.{Table, turnOf, unless}
-use Rattle.order.specs.Claim as Claim
-use Rattle.order.specs.Queue as Queue
+use Rattle.execution.specs.declared.End.the-variants.{Fault}
+use Rattle.execution.specs.declared.Cause.the-variants.{BadNext}
+use Rattle.execution.specs.Straight.{ends}
+use Rattle.execution.specs.Straight as O
+use Rattle.execution.specs.Table.{Table, turnOf, unless}
+use Rattle.execution.specs.Claim as Claim
+use Rattle.execution.specs.Queue as Queue
+use Rattle.cursor.specs.Plane.{imageWords}
 use Rattle.ring.specs.declared.Ring.{Ring}
-use Rattle.ring.specs.Acceptance.{nextOf}
+use Rattle.ring.specs.Acceptance.{nextOf, maxWords}
 use Rattle.ring.specs.Waiting.{ahead, waiting, carried, placed, nextGood}
 use Rattle.command.specs.Commands.{Known, commands}
 use Rattle.effect.specs.declared.Marks.{Marks}
 use Rattle.effect.specs.Effects.{Scene, Machine, done}
 use Rattle.run.specs.declared.View.{View}
-use Rattle.run.specs.declared.Answer.{Answer}
-use Rattle.run.specs.declared.Answer.the-variants.{Spent, Ended}
-use Rattle.run.specs.declared.Ran.{Ran}
+use Rattle.run.specs.declared.RunEnd.{RunEnd}
+use Rattle.run.specs.declared.RunEnd.the-variants.{Spent, Ended}
+use Rattle.run.specs.declared.RingRun.{RingRun}
 
 -- The machine of straight execution, from what the code holds.
 abbrev pub machine : Marks → List ℕ → List ℕ → Machine
@@ -48,19 +49,19 @@ unfoldable pub stamped : ℕ → List ℕ → List ℕ
 stamped stop ring = set ring 3 (stop * 4)
 
 -- What a run gives: its answer, "the number of commands consumed in this run", and all that it can change.
-pub record Outcome : Type 0 where
+pub record RingOutcome : Type 0 where
   pub answer : Claim.Answer
   pub count : ℕ
   pub place : Ring
   pub ring : List ℕ
   pub machine : Machine
 
-abbrev pub answerOf : Answer → Claim.Answer
+abbrev pub answerOf : RunEnd → Claim.Answer
 answerOf Spent = Claim.spent
 answerOf (Ended e) = Claim.ended e
 
-abbrev pub outcome : Ran → List ℕ → List ℕ → List ℕ → Outcome
-outcome r ring screen cursor = record {
+abbrev pub ringOutcome : RingRun → List ℕ → List ℕ → List ℕ → RingOutcome
+ringOutcome r ring screen cursor = record {
   answer = answerOf (r .answer);
   count = r .count;
   place = r .ring;
@@ -73,11 +74,11 @@ abbrev pub placeOf : View → Ring
 placeOf v = record { min = v .lo; max = v .hi; stop = v .at }
 
 -- What the code gives that ended at a view.
-abbrev pub ranTo : View → Answer → ℕ → Marks → Ran
+abbrev pub ranTo : View → RunEnd → ℕ → Marks → RingRun
 ranTo v answer count marks = record { answer = answer; count = count; ring = placeOf v; marks = marks }
 
 -- STOP has passed the words that turns dropped. "The run changes no other ring word, and none if it consumed nothing."
-unfoldable pub left : Ring → List ℕ → List ℕ → Queue.Ran Machine → Outcome
+unfoldable pub left : Ring → List ℕ → List ℕ → Queue.LineRun Machine → RingOutcome
 left g ring words r =
     let to = passed g (length words - length (r .line .words)) in
     record {
@@ -89,19 +90,19 @@ left g ring words r =
     }
 
 -- A run of all turns on these words.
-unfoldable pub runWords : (Machine → List ℕ → O.Turn Machine) → Ring → ℕ → List ℕ → List ℕ → Machine → Outcome
+unfoldable pub runWords : (Machine → List ℕ → O.Turn Machine) → Ring → ℕ → List ℕ → List ℕ → Machine → RingOutcome
 runWords turn g budget ring words m = left g ring words (Queue.runs turn budget (record { words = words; machine = m }))
 
 -- The answer where NEXT_CMD is unusable: "budget used up: 2" comes before 13.
-unfoldable pub lost : ℕ → Claim.Answer
-lost budget = cond (eqb budget 0) Claim.spent (Claim.ended (Fault BadNext))
+unfoldable pub nextUnusable : ℕ → Claim.Answer
+nextUnusable budget = cond (eqb budget 0) Claim.spent (Claim.ended (Fault BadNext))
 
 -- The remembered ring lies in the ring memory, and in the largest that a device can have, 2,097,152 bytes; the cursor image has its 4,096 words.
 unfoldable pub fitting : Ring → ℕ → ℕ → Bool
-fitting g words image = placed g words && (leb (g .max) 524288 && eqb image 4096)
+fitting g words image = placed g words && (leb (g .max) maxWords && eqb image imageWords)
 
 -- A run. With a ring that lies outside its memory, or another cursor image, it does nothing and answers 13; no device gets there.
-unfoldable pub runIn : Scene → Ring → ℕ → List ℕ → Machine → Outcome
+unfoldable pub runIn : Scene → Ring → ℕ → List ℕ → Machine → RingOutcome
 runIn s g budget ring m =
     cond (fitting g (length ring) (length (m .cursor)))
     (runWords (turnIn s g (nextOf ring)) g budget ring (waiting ring (g .min) (g .max) (g .stop) (nextOf ring / 4)) m)

@@ -5,7 +5,9 @@ use mathlib.Core.List.{List}
 use lib.Dec.{ltb}
 use lib.ListN.{length, take, drop}
 use mathlib.Core.Path.{_≡_}
+use Rattle.cursor.specs.Plane.{maxSide, imageWords}
 use Rattle.ring.specs.declared.Ring.{Ring}
+use Rattle.ring.specs.Acceptance.{maxWords}
 use Rattle.ring.specs.Waiting.{ahead, between, words}
 use Rattle.command.specs.declared.Action.{Action}
 use Rattle.command.specs.declared.Action.the-variants.{Update, Fill, Copy, Define, Fence, Nothing}
@@ -26,9 +28,9 @@ pub record InView (v : View) (m : ℕ) : Type 0 where
 pub record Stands (v : View) (ring cursor : List ℕ) : Type 0 where
   pub inside : InView v (length ring)
   pub low : 4 ≤ v .lo
-  pub small : v .hi ≤ 524288
+  pub small : v .hi ≤ maxWords
   pub carries : 10 + v .lo < v .hi
-  pub image : length cursor ≡ 4096
+  pub image : length cursor ≡ imageWords
 
 -- A view behind its first k words.
 abbrev pub passedIn : View → ℕ → View
@@ -43,7 +45,7 @@ abbrev pub Ready : Action → ℕ → Type 0
 Ready (Update r) n = Unit {0}
 Ready (Fill r colour rop) n = Unit {0}
 Ready (Copy from r rop) n = Unit {0}
-Ready (Define s) n = (6 + s .w * s .h ≤ n) × (s .w ≤ 64) × (s .h ≤ 64)
+Ready (Define s) n = (6 + s .w * s .h ≤ n) × (s .w ≤ maxSide) × (s .h ≤ maxSide)
 Ready (Fence number) n = Unit {0}
 Ready Nothing n = Unit {0}
 

@@ -3,16 +3,20 @@ use command::Action;
 use command::Data;
 use command::Finding;
 use command::Step;
+use cursor::IMAGE_WORDS;
 use effect::Marks;
-use order::Cause;
-use order::End;
+use execution::Cause;
+use execution::End;
+use ring::MAX_WORDS;
 use ring::Ring;
 ghost use mathlib.Core.Path.{_≡_};
 ghost use Prim.Native.Nat.{_+_, _/_, _≤_, _<_};
 ghost use mathlib.Core.List.{_++_};
 ghost use lib.ListN.{length, getD, take, drop};
 ghost use lib.Seq.{paste};
-ghost use Rattle.order.specs.Table.{turnOf};
+ghost use Rattle.execution.specs.Table.{turnOf};
+ghost use Rattle.cursor.specs.Plane.{imageWords};
+ghost use Rattle.ring.specs.Acceptance.{maxWords};
 ghost use Rattle.ring.specs.Waiting.{between, words, carried};
 ghost use Rattle.command.specs.Commands.{kindIn};
 ghost use Rattle.command.specs.Findings.{kindWith};
@@ -20,7 +24,7 @@ ghost use Rattle.effect.specs.Effects.{scene, cursorAfter};
 ghost use Rattle.run.specs.declared.Stop.the-variants.{Stops};
 ghost use Rattle.run.specs.Turns.{InView, Stands, wordsIn, passedIn, viewOf, Ready, rowEnd, LineOf};
 ghost use Rattle.run.specs.Going.{RowRun, after, turned, DataTurned};
-ghost use Rattle.run.specs.Run.{ranTo, machine, table, placeOf, stamped, outcome, runWords, fitting, lost, answerOf, runIn};
+ghost use Rattle.run.specs.Run.{ranTo, machine, table, placeOf, stamped, ringOutcome, runWords, fitting, nextUnusable, answerOf, runIn};
 
 // The words that wait in a ring from word lo to below word hi: n of them, from word at on.
 struct View {
@@ -31,15 +35,15 @@ struct View {
 }
 
 // How a run ended: its budget is spent, or a turn ended it.
-pub enum Answer {
+pub enum RunEnd {
     Spent,
     Ended(End),
 }
 
 // What a run gives beside the lent memories: its answer, the commands that it consumed, the remembered ring with STOP behind them, and the fence and
 // cursor that they left.
-pub struct Ran {
-    pub answer: Answer,
+pub struct RingRun {
+    pub answer: RunEnd,
     pub count: u32,
     pub ring: Ring,
     pub marks: Marks,
@@ -77,7 +81,7 @@ fn view_of(at: Ring, next: u32) -> View
 
 // "ring word 3 is written": the only function that writes ring words. STOP has come to word at.
 fn stamp(ring: &mut [u32], at: usize)
-    requires { ⌜ (4 ≤ length (now ring)) × (at ≤ 524288) ⌝ }
+    requires { ⌜ (4 ≤ length (now ring)) × (at ≤ maxWords) ⌝ }
     ensures { λ _. ⌜ now (ring .exit) ≡ stamped at (now (ring .entry)) ⌝ }
 {
     ring[3] = (at * 4) as u32;
@@ -138,7 +142,7 @@ fn copy_pixels(ring: &[u32], v: View, count: usize, cursor: &mut [u32])
 fn bring_cursor(action: Action, ring: &[u32], v: View, cursor: &mut [u32])
     requires { ⌜ InView v (length (now ring)) ⌝ }
     requires { ⌜ Ready action (v .n) ⌝ }
-    requires { ⌜ length (now cursor) ≡ 4096 ⌝ }
+    requires { ⌜ length (now cursor) ≡ imageWords ⌝ }
     ensures { λ _. ⌜ now (cursor .exit) ≡ cursorAfter action (wordsIn (now (ring .entry)) v) (now (cursor .entry)) ⌝ }
 {
     match action {
@@ -153,7 +157,7 @@ fn bring_cursor(action: Action, ring: &[u32], v: View, cursor: &mut [u32])
 
 // A view behind its first size words.
 fn pass(v: View, size: usize) -> View
-    requires { ⌜ (v .lo ≤ v .at) × (v .at < v .hi) × (size ≤ v .n) × (v .n + v .lo < v .hi) × (v .hi ≤ 524288) ⌝ }
+    requires { ⌜ (v .lo ≤ v .at) × (v .at < v .hi) × (size ≤ v .n) × (v .n + v .lo < v .hi) × (v .hi ≤ maxWords) ⌝ }
     ensures { λ r. ⌜ r ≡ passedIn v size ⌝ }
 {
     let lo = v.lo;
@@ -173,7 +177,7 @@ fn pass(v: View, size: usize) -> View
 
 // The remembered ring of a view.
 fn place_of(v: View) -> Ring
-    requires { ⌜ (v .lo ≤ v .hi) × (v .at ≤ v .hi) × (v .hi ≤ 524288) ⌝ }
+    requires { ⌜ (v .lo ≤ v .hi) × (v .at ≤ v .hi) × (v .hi ≤ maxWords) ⌝ }
     ensures { λ r. ⌜ r ≡ placeOf v ⌝ }
 {
     Ring {
@@ -213,7 +217,7 @@ fn row_turns(
     width: u32,
     rows: u32,
 ) -> Paused
-    requires { ⌜ (4 ≤ from) × (from ≤ end) × (end ≤ length (now memory)) × (end ≤ 524288) ⌝ }
+    requires { ⌜ (4 ≤ from) × (from ≤ end) × (end ≤ length (now memory)) × (end ≤ maxWords) ⌝ }
     ensures { λ r. ⌜ RowRun (scene width rows (now (framebuffer .entry))) budget (now (memory .entry)) from end before (now (screen .entry))
         r (now (memory .exit)) (now (screen .exit)) ⌝ }
 {
@@ -266,7 +270,7 @@ fn row_turns(
 
 // Where the words of a view end that lie in a row.
 fn row_end(v: View) -> usize
-    requires { ⌜ (v .at < v .hi) × (v .n + v .lo < v .hi) × (v .hi ≤ 524288) ⌝ }
+    requires { ⌜ (v .at < v .hi) × (v .n + v .lo < v .hi) × (v .hi ≤ maxWords) ⌝ }
     ensures { λ r. ⌜ r ≡ rowEnd v ⌝ }
 {
     let past = v.at + v.n;
@@ -419,11 +423,11 @@ fn one_turn(
 // ---- the run
 
 // What a run gives that ended at a view.
-fn ran_to(v: View, answer: Answer, count: u32, marks: Marks) -> Ran
-    requires { ⌜ (v .lo ≤ v .hi) × (v .at ≤ v .hi) × (v .hi ≤ 524288) ⌝ }
+fn ran_to(v: View, answer: RunEnd, count: u32, marks: Marks) -> RingRun
+    requires { ⌜ (v .lo ≤ v .hi) × (v .at ≤ v .hi) × (v .hi ≤ maxWords) ⌝ }
     ensures { λ r. ⌜ r ≡ ranTo v answer count marks ⌝ }
 {
-    Ran {
+    RingRun {
         answer,
         count,
         ring: place_of(v),
@@ -442,9 +446,9 @@ fn turns(
     cursor: &mut [u32],
     width: u32,
     rows: u32,
-) -> Ran
+) -> RingRun
     requires { ⌜ Stands view (now ring) (now cursor) ⌝ }
-    ensures { λ r. ⌜ outcome r (now (ring .exit)) (now (screen .exit)) (now (cursor .exit))
+    ensures { λ r. ⌜ ringOutcome r (now (ring .exit)) (now (screen .exit)) (now (cursor .exit))
         ≡ runWords (turnOf (carried (view .lo) (view .hi)) (table (scene width rows (now (framebuffer .entry))))) (placeOf view) budget
         (now (ring .entry)) (wordsIn (now (ring .entry)) view) (machine before (now (screen .entry)) (now (cursor .entry))) ⌝ }
 {
@@ -479,12 +483,12 @@ fn turns(
                     left -= 1;
                 }
                 Stop::Stops(end) => {
-                    return ran_to(v, Answer::Ended(end), budget - left, marks);
+                    return ran_to(v, RunEnd::Ended(end), budget - left, marks);
                 }
             }
         }
     }
-    ran_to(v, Answer::Spent, budget, marks)
+    ran_to(v, RunEnd::Spent, budget, marks)
 }
 
 // Whether the remembered ring lies in the ring memory and the cursor image is one.
@@ -495,20 +499,20 @@ fn is_fitting(at: Ring, words: usize, image: usize) -> bool
     if !there {
         return false;
     }
-    if 524288 < at.max {
+    if MAX_WORDS < at.max {
         return false;
     }
-    image == 4096
+    image == IMAGE_WORDS
 }
 
 // The answer where NEXT_CMD is unusable: the budget is looked at first.
-fn lost_answer(budget: u32) -> Answer
-    ensures { λ r. ⌜ answerOf r ≡ lost budget ⌝ }
+fn next_unusable(budget: u32) -> RunEnd
+    ensures { λ r. ⌜ answerOf r ≡ nextUnusable budget ⌝ }
 {
     if budget == 0 {
-        return Answer::Spent;
+        return RunEnd::Spent;
     }
-    Answer::Ended(End::Fault(Cause::BadNext))
+    RunEnd::Ended(End::Fault(Cause::BadNext))
 }
 
 // Commands out of the ring, with MIN, MAX and STOP as they are remembered. The mode is width by rows.
@@ -523,14 +527,14 @@ pub fn run(
     cursor: &mut [u32],
     width: u32,
     rows: u32,
-) -> Ran
-    ensures { λ r. ⌜ outcome r (now (ring .exit)) (now (screen .exit)) (now (cursor .exit))
+) -> RingRun
+    ensures { λ r. ⌜ ringOutcome r (now (ring .exit)) (now (screen .exit)) (now (cursor .exit))
         ≡ runIn (scene width rows (now (framebuffer .entry))) at budget (now (ring .entry)) (machine marks (now (screen .entry)) (now (cursor .entry))) ⌝ }
 {
     let fits = is_fitting(at, ring.len(), cursor.len());
     if !fits {
-        return Ran {
-            answer: Answer::Ended(End::Fault(Cause::BadNext)),
+        return RingRun {
+            answer: RunEnd::Ended(End::Fault(Cause::BadNext)),
             count: 0,
             ring: at,
             marks,
@@ -539,8 +543,8 @@ pub fn run(
     let next = ring[2];
     let good = ring::next_good(at, next);
     if !good {
-        return Ran {
-            answer: lost_answer(budget),
+        return RingRun {
+            answer: next_unusable(budget),
             count: 0,
             ring: at,
             marks,

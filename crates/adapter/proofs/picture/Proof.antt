@@ -5,7 +5,7 @@ use mathlib.Core.Path.{_≡_, sym, ap, _∙_}
 use mathlib.Core.Bool.{true}
 use lib.ListN.{length}
 use borrow.Author.Tests.{not-true, not-false}
-use Rattle.device.specs.Device.{pixelsOf, made}
+use Rattle.device.specs.Device.{pixelsOf, wellFormed}
 use Rattle.adapter.specs.declared.PictureAnswer.the-variants.{Taken}
 use Rattle.adapter.specs.Picture.{pictured, lengthsGood, pictureOf}
 use Rattle.adapter.proofs.picture.Statement.{statement}
@@ -16,8 +16,8 @@ use Rattle.adapter.proofs.picture.Tie as tie
 abbrev start : tie.Else1 → tie.Start
 start c = c .before .before .before .before .before
 
-is-made : (c : tie.Else1) → made (start c .args .d) ≡ true
-is-made c = sym (c .before .is-made .ensures) ∙ not-false _ (c .if1 .left)
+is-well-formed : (c : tie.Else1) → wellFormed (start c .args .d) ≡ true
+is-well-formed c = sym (c .before .is-well-formed .ensures) ∙ not-false _ (c .if1 .left)
 
 abbrev else1 : tie.After-lengths-good → tie.Else1
 else1 c = c .before .before .before
@@ -41,7 +41,7 @@ returns-3 : tie.Need-returns-3
 unfolding pictureOf
 returns-3 c =
     let lent = else2 (c .before) in
-    rw (is-made (else1 (lent .before)), is-lent lent, sym (c .before .mode-fits .ensures) ∙ not-true _ (c .if3 .taken))
+    rw (is-well-formed (else1 (lent .before)), is-lent lent, sym (c .before .mode-fits .ensures) ∙ not-true _ (c .if3 .taken))
 
 returns-4 : tie.Need-returns-4
 unfolding pictureOf
@@ -50,7 +50,7 @@ returns-4 c =
     let over = after-cursor composed in
     let fits = over .before in
     let lent = else2 (fits .before) in
-    rw (is-made (else1 (lent .before)), is-lent lent, sym (fits .before .mode-fits .ensures) ∙ not-false _ (fits .if3 .left), ← (over .cursor-over .ensures))
+    rw (is-well-formed (else1 (lent .before)), is-lent lent, sym (fits .before .mode-fits .ensures) ∙ not-false _ (fits .if3 .left), ← (over .cursor-over .ensures))
     (ap (pictured Taken) (composed .compose .ensures))
 
 pub picture-spec : {M : Type 1} → statement M
@@ -59,10 +59,10 @@ picture-spec =
     tie.close
     (tie.spec
     (λ c κs. search needs)
-    (λ c. rw (sym (c .before .is-made .ensures) ∙ not-true _ (c .if1 .taken)))
+    (λ c. rw (sym (c .before .is-well-formed .ensures) ∙ not-true _ (c .if1 .taken)))
     (λ c. search needs)
     (λ c κs. search needs)
-    (λ c. rw (is-made (else1 (c .before)), sym (c .before .lengths-good .ensures) ∙ not-true _ (c .if2 .taken)))
+    (λ c. rw (is-well-formed (else1 (c .before)), sym (c .before .lengths-good .ensures) ∙ not-true _ (c .if2 .taken)))
     (λ c κs. search needs)
     returns-3
     (λ c κs. search needs)

@@ -7,7 +7,7 @@ use borrow.Author.Needs.{needs}
 use borrow.Author.Tests.{not-true, not-false, lt-leb, le-leb}
 use Rattle.device.specs.declared.Condition.{Condition}
 use Rattle.device.specs.declared.Device.{Device}
-use Rattle.device.specs.Device.{made}
+use Rattle.device.specs.Device.{wellFormed}
 use Rattle.device_run.specs.Run.{Lent, lent, lentGood, runBy, runOf}
 use Rattle.device_run.proofs.RunLaws.{run-by}
 use Rattle.device_run.proofs.run.Statement.{statement}
@@ -15,11 +15,11 @@ use Rattle.device_run.proofs.run.Tie as tie
 
 -- ---- the places behind each test
 
-abbrev start : tie.After-is-made → tie.Start
+abbrev start : tie.After-is-well-formed → tie.Start
 start c = c .before .before .before .before .before
 
-abbrev past-made : tie.After-lent-good → tie.Else1
-past-made c = c .before .before .before .before
+abbrev past-well-formed : tie.After-lent-good → tie.Else1
+past-well-formed c = c .before .before .before .before
 
 abbrev past-lent : tie.After-struct-known → tie.Else2
 past-lent c = c .before .before
@@ -38,17 +38,17 @@ device c = start (c .before) .args .d
 abbrev memories : tie.Else1 → Lent
 memories c = let a = start (c .before) .args in lent (a .ring .now) (a .framebuffer .now) (a .screen .now) (a .cursor .now)
 
-good : (c : tie.Else1) → made (device c) ≡ true
-good c = sym (c .before .is-made .ensures) ∙ not-false _ (c .if1 .left)
+good : (c : tie.Else1) → wellFormed (device c) ≡ true
+good c = sym (c .before .is-well-formed .ensures) ∙ not-false _ (c .if1 .left)
 
-right : (c : tie.Else2) → let b = past-made (c .before) in lentGood (device b) (memories b) ≡ true
+right : (c : tie.Else2) → let b = past-well-formed (c .before) in lentGood (device b) (memories b) ≡ true
 right c = sym (c .before .lent-good .ensures) ∙ not-false _ (c .if2 .left)
 
-configured : (c : tie.Else3) → device (past-made (past-lent (c .before) .before)) .registers .config ≡ true
-configured c = not-false (device (past-made (past-lent (c .before) .before)) .registers .config) (c .if3 .left)
+configured : (c : tie.Else3) → device (past-well-formed (past-lent (c .before) .before)) .registers .config ≡ true
+configured c = not-false (device (past-well-formed (past-lent (c .before) .before)) .registers .config) (c .if3 .left)
 
-enabled : (c : tie.Else4) → device (past-made (past-lent (past-config (c .before) .before) .before)) .registers .enable ≡ true
-enabled c = not-false (device (past-made (past-lent (past-config (c .before) .before) .before)) .registers .enable) (c .if4 .left)
+enabled : (c : tie.Else4) → device (past-well-formed (past-lent (past-config (c .before) .before) .before)) .registers .enable ≡ true
+enabled c = not-false (device (past-well-formed (past-lent (past-config (c .before) .before) .before)) .registers .enable) (c .if4 .left)
 
 module _ (c : tie.Else5) where
   abbrev at-4 : tie.Else4
@@ -61,7 +61,7 @@ module _ (c : tie.Else5) where
   at-2 = past-lent (at-3 .before)
 
   abbrev at-1 : tie.Else1
-  at-1 = past-made (at-2 .before)
+  at-1 = past-well-formed (at-2 .before)
 
   by-condition : (k : Condition) → device at-1 .condition ≡ k
       → let b = start (at-1 .before) .args .budget in runOf (device at-1) (memories at-1) b ≡ runBy (device at-1) (memories at-1) b k
@@ -72,19 +72,19 @@ module _ (c : tie.Else5) where
 
 returns : tie.Need-returns
 unfolding runOf
-returns c = rw (c .refused .ensures, sym (c .before .before .is-made .ensures) ∙ not-true _ (c .before .if1 .taken))
+returns c = rw (c .refused .ensures, sym (c .before .before .is-well-formed .ensures) ∙ not-true _ (c .before .if1 .taken))
 
 returns-2 : tie.Need-returns-2
 unfolding runOf
 returns-2 c =
     let b = c .before .before in
-    rw (c .refused2 .ensures, good (past-made b), sym (b .lent-good .ensures) ∙ not-true _ (c .before .if2 .taken))
+    rw (c .refused2 .ensures, good (past-well-formed b), sym (b .lent-good .ensures) ∙ not-true _ (c .before .if2 .taken))
 
 returns-3 : tie.Need-returns-3
 unfolding runOf
 returns-3 c =
     let b = past-lent (c .before .before) in
-    let a = past-made (b .before) in
+    let a = past-well-formed (b .before) in
     rw (c .refused3 .ensures, good a, right b, not-true (device a .registers .config) (c .before .if3 .taken))
 
 returns-4 : tie.Need-returns-4
@@ -92,7 +92,7 @@ unfolding runOf
 returns-4 c =
     let d = past-config (c .before .before) in
     let b = past-lent (d .before) in
-    let a = past-made (b .before) in
+    let a = past-well-formed (b .before) in
     rw (c .refused4 .ensures, good a, right b, configured d, not-true (device a .registers .enable) (c .before .if4 .taken))
 
 returns-5 : tie.Need-returns-5
@@ -102,7 +102,7 @@ returns-5 c =
     let e = past-enable f in
     let d = past-config (e .before) in
     let b = past-lent (d .before) in
-    rw (c .refused5 .ensures, good (past-made (b .before)), right b, configured d, enabled e, sym (f .mode-fits .ensures) ∙ not-true _ (c .before .if5 .taken))
+    rw (c .refused5 .ensures, good (past-well-formed (b .before)), right b, configured d, enabled e, sym (f .mode-fits .ensures) ∙ not-true _ (c .before .if5 .taken))
 
 returns-6 : tie.Need-returns-6
 unfolding runBy

@@ -13,13 +13,13 @@ read-spec =
     tie.close
     (tie.spec
     (λ c κs. search needs)
-    (λ c. rw (sym (c .before .is-made .ensures) ∙ not-true _ (c .if1 .taken)))
+    (λ c. rw (sym (c .before .is-well-formed .ensures) ∙ not-true _ (c .if1 .taken)))
     (λ c κs. search needs)
     (λ c. search needs)
     (λ c κs. search needs)
-    (λ c. rw (sym (c .before .before .before .before .before .before .before .is-made .ensures) ∙ not-false _ (c .before .before .before .before .before .before .if1 .left), sym (c .before .before .before .before .before .register-of .ensures) ∙ c .before .before .before .register .given .1, c .writable-value .ensures))
+    (λ c. rw (sym (c .before .before .before .before .before .before .before .is-well-formed .ensures) ∙ not-false _ (c .before .before .before .before .before .before .if1 .left), sym (c .before .before .before .before .before .register-of .ensures) ∙ c .before .before .before .register .given .1, c .writable-value .ensures))
     (λ c. search needs)
-    (λ c κs. sym (c .before .before .before .before .before .is-made .ensures) ∙ not-false _ (c .before .before .before .before .if1 .left))
-    (λ c. rw (sym (c .before .before .before .before .before .before .is-made .ensures) ∙ not-false _ (c .before .before .before .before .before .if1 .left), sym (c .before .before .before .before .register-of .ensures) ∙ c .before .before .register2 .given .1, c .read-only-value .ensures))
+    (λ c κs. sym (c .before .before .before .before .before .is-well-formed .ensures) ∙ not-false _ (c .before .before .before .before .if1 .left))
+    (λ c. rw (sym (c .before .before .before .before .before .before .is-well-formed .ensures) ∙ not-false _ (c .before .before .before .before .before .if1 .left), sym (c .before .before .before .before .register-of .ensures) ∙ c .before .before .register2 .given .1, c .read-only-value .ensures))
     (λ c. search needs)
-    (λ c. rw (sym (c .before .before .before .before .is-made .ensures) ∙ not-false _ (c .before .before .before .if1 .left), sym (c .before .before .register-of .ensures) ∙ c .enum-told .given .1)))
+    (λ c. rw (sym (c .before .before .before .before .is-well-formed .ensures) ∙ not-false _ (c .before .before .before .if1 .left), sym (c .before .before .register-of .ensures) ∙ c .enum-told .given .1)))

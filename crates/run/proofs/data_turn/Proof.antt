@@ -5,7 +5,7 @@ use mathlib.Core.Option.{some}
 use Prim.Native.Nat.{_≤_}
 use native.Mathlib.Omega.{arith}
 use borrow.Author.Needs.{needs}
-use Rattle.order.specs.Straight.{exec}
+use Rattle.execution.specs.Straight.{exec}
 use Rattle.ring.proofs.WaitingLaws.{length-words}
 use Rattle.ring.specs.Waiting.{carried}
 use Rattle.command.specs.Findings.{findsIn, asTurn, begun}

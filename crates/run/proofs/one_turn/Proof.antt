@@ -5,7 +5,7 @@ use Prim.Native.Nat.{ℕ, _+_, _-_, _≤_, _<_}
 use native.Mathlib.Omega.{arith}
 use borrow.Author.Needs.{needs}
 use lib.ListN.{length, take}
-use Rattle.order.specs.Straight.{exec, ends}
+use Rattle.execution.specs.Straight.{exec, ends}
 use Rattle.ring.specs.Waiting.{ahead}
 use Rattle.ring.proofs.WaitingLaws.{length-words, ahead-in}
 use Rattle.command.proofs.Laws.{command-laws}

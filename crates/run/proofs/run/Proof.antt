@@ -8,7 +8,7 @@ use lib.ListN.{length}
 use Rattle.ring.specs.Acceptance.{nextOf}
 use Rattle.ring.specs.Waiting.{nextGood}
 use Rattle.run.specs.Run.{fitting}
-use Rattle.run.proofs.RunLaws.{run-unfit, run-lost, run-good, can-view, can-turn, head-there}
+use Rattle.run.proofs.RunLaws.{run-unfit, run-next-unusable, run-good, can-view, can-turn, head-there}
 use Rattle.run.proofs.run.Statement.{statement}
 use Rattle.run.proofs.run.Tie as tie
 
@@ -40,7 +40,7 @@ at-turns c = c .before .before .before .before .before .before
 returns-2 : tie.Need-returns-2
 returns-2 c =
     let n = c .before .before in
-    rw (c .lost-answer .ensures) (sym (run-lost _ _ _ _ _ (fits (past-fits n)) (sym (n .next-good .ensures) ∙ not-true _ (c .before .if2 .taken))))
+    rw (c .next-unusable .ensures) (sym (run-next-unusable _ _ _ _ _ (fits (past-fits n)) (sym (n .next-good .ensures) ∙ not-true _ (c .before .if2 .taken))))
 
 returns-3 : tie.Need-returns-3
 returns-3 c =

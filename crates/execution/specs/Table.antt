@@ -1,0 +1,57 @@
+-- A command set as a table, and document 01's turn over it ("One command out of the ring").
+use mathlib.Core.Bool.{Bool, true, false}
+use mathlib.Core.List.{List, [], _∷_}
+use Prim.Native.Nat.{ℕ}
+use lib.ListN.{length, take}
+use lib.Dec.{leb}
+use Rattle.execution.specs.declared.Cause.the-variants.{NotOffered, BadOperand, TooLong}
+use Rattle.execution.specs.declared.End.the-variants.{Drained, Waiting, Fault}
+use Rattle.execution.specs.Straight.{Turn, ends, exec}
+
+-- A check on a head sees the head's words alone, one on a command its own words alone: what they say stands, whatever is appended.
+pub record Table (S : Type 0) : Type 0 where
+  -- is this number a command's
+  pub offered : ℕ → Bool
+  -- words of its head, the number included; a command of fixed length is all head
+  pub head : ℕ → ℕ
+  -- of the head's words: are they good; how many words has the whole command
+  pub headGood : List ℕ → Bool
+  pub size : List ℕ → ℕ
+  -- of all its words, on the machine there: may it be executed; what does it leave
+  pub good : S → List ℕ → Bool
+  pub effect : S → List ℕ → S
+
+module _ {S : Type 0} where
+  -- where the test fails the turn ends so; else what follows
+  unfoldable pub unless : Bool → Turn S → Turn S → Turn S
+  unless true e t = t
+  unless false e t = e
+
+module _ {S : Type 0} (T : Table S) where
+  -- of a command with number x at the front of w: its head's words, its length, its words
+  abbrev pub headOf : ℕ → List ℕ → List ℕ
+  headOf x w = take (T .head x) w
+
+  abbrev pub sizeOf : ℕ → List ℕ → ℕ
+  sizeOf x w = T .size (headOf x w)
+
+  abbrev pub allOf : ℕ → List ℕ → List ℕ
+  allOf x w = take (sizeOf x w) w
+
+module _ {S : Type 0} (cap : ℕ) (T : Table S) where
+  -- "Number not offered: 10. Head incomplete: 1. Cursor head bad: 11. Length above what the ring carries: 12. Words missing: 1. Raster operation
+  -- above 15: 11. Then it is executed". The words w begin with the number x; the ring carries cap words.
+  abbrev pub turnAt : S → ℕ → List ℕ → Turn S
+  turnAt s x w =
+      unless (T .offered x) (ends (Fault NotOffered))
+      (unless (leb (T .head x) (length w)) (ends Waiting)
+      (unless (T .headGood (headOf T x w)) (ends (Fault BadOperand))
+      (unless (leb (sizeOf T x w) cap) (ends (Fault TooLong))
+      (unless (leb (sizeOf T x w) (length w)) (ends Waiting)
+      (unless (T .good s (allOf T x w)) (ends (Fault BadOperand))
+      (exec (sizeOf T x w) (T .effect s (allOf T x w))))))))
+
+  -- "NEXT_CMD = STOP: 0": no words are left
+  unfoldable pub turnOf : S → List ℕ → Turn S
+  turnOf s [] = ends Drained
+  turnOf s (x ∷ w) = turnAt s x (x ∷ w)

@@ -1,0 +1,484 @@
+-- What a run keeps: a device stays well-formed, lent memories keep their lengths, every ring word but word 3 stays; and no run that is not refused
+-- answers 23.
+-- Assumes nothing.
+use mathlib.Core.Path.{_≡_, refl, sym, ap, _∙_}
+use mathlib.Core.Bool.{Bool, true, false, _&&_, true≢false}
+use mathlib.Core.Option.{Option, none, some}
+use mathlib.Core.List.{List, [], _∷_}
+use Prim.Native.Nat.{ℕ, zero, suc, _+_, _-_, _*_, _/_, _≤_, _<_}
+use native.Mathlib.Nat.{mul-le-mul, mul-comm, le-div-iff-mul-le}
+use native.Mathlib.Omega.{arith}
+use lib.Dec.{eqb, ltb}
+use lib.ListN.{length, getD, take, length-set, length-take, length-drop, length-append, List·getD-eq-default}
+use lib.Seq.{getD-set-other}
+use borrow.Author.Tests.{eqb-true, ltb-true, ltb-false, eq-eqb, le-ltb}
+use borrow.Table.Steps.{cases}
+use Rattle.geometry.proofs.Tests.{both, by-cond}
+use Rattle.execution.specs.declared.End.{End}
+use Rattle.execution.specs.declared.End.the-variants.{Drained, Waiting, Fault}
+use Rattle.execution.specs.declared.Cause.the-variants.{NotOffered, BadOperand, TooLong, BadNext}
+use Rattle.execution.specs.Straight.{Turn, ends, exec, Line, beyond, next}
+use Rattle.execution.specs.Table.{unless, turnOf}
+use Rattle.execution.specs.Claim.{Answer, spent, standing, ended, answerNumber}
+use Rattle.execution.specs.Queue.{LineRun, runs}
+use Rattle.execution.proofs.QueueLaws.{runs-ends, runs-exec}
+use Rattle.ring.specs.declared.Ring.{Ring}
+use Rattle.ring.specs.Acceptance.{nextOf}
+use Rattle.ring.specs.Waiting.{ahead, between, words, waiting, carried, placed, nextGood}
+use Rattle.ring.proofs.Laws.{placed-when, when-placed}
+use Rattle.ring.proofs.WaitingLaws.{InRing, ahead-in, between-carried, length-words}
+use Rattle.geometry.specs.declared.Rect.{Rect}
+use Rattle.geometry.specs.Pixels.{inRect, inArea}
+use Rattle.raster.specs.Painters.{moves}
+use Rattle.raster.proofs.Laws.{length-filled, length-updated, length-copied, fill-outside, update-outside, copy-outside}
+use Rattle.cursor.specs.Plane.{shapeGood}
+use Rattle.command.specs.declared.Action.{Action}
+use Rattle.command.specs.declared.Action.the-variants as A
+use Rattle.command.specs.declared.Kind.{Kind}
+use Rattle.command.specs.declared.Kind.the-variants.{Update, RectFill, RectCopy, RectRopFill, RectRopCopy, DefineAlphaCursor, UpdateVerbose, Fence, Escape, Foreign}
+use Rattle.command.specs.Commands.{entry, kindIn}
+use Rattle.command.specs.Findings.{findsIn}
+use Rattle.command.proofs.Rules.{onMachine, turn-found}
+use Rattle.effect.specs.declared.Marks.{Marks}
+use Rattle.effect.specs.Effects.{Scene, scene, Machine, screenAfter, definedAfter, cursorAfter, marksAfter, done}
+use Rattle.run.specs.Turns.{Ready}
+use Rattle.run.specs.Run.{knownOf, table, turnIn, stamped, RingOutcome, left, runWords, fitting, runIn}
+use Rattle.run.proofs.Laws.{next-says}
+use Rattle.run.proofs.Found.{Found, found}
+use Rattle.device.specs.declared.Condition.{Condition}
+use Rattle.device.specs.declared.Condition.the-variants.{Idle, Running, Faulted}
+use Rattle.device.specs.declared.Device.{Device}
+use Rattle.device.specs.Device.{memoryOf, pixelsOf, widthOf, heightOf, conditionGood, definedGood, modeFits, wellFormed}
+use Rattle.device_run.specs.Run.{Lent, RunOutcome, lentGood, conditionAfter, settled, machineOf, ran, refusedRun, runBy, runOf}
+use Rattle.device.proofs.Laws.{well-formed}
+use Rattle.device.proofs.Kept.{well-formed-of}
+
+-- ---- a run of a line, turn by turn
+
+-- an answer of a run that is not refused: not 23
+abbrev pub NotStanding : Answer → Type 0
+NotStanding spent = Unit {0}
+NotStanding standing = ⊥
+NotStanding (ended e) = Unit {0}
+
+-- what a run can answer when it is not refused
+pub not-standing-small : (a : Answer) → NotStanding a → answerNumber a ≤ 13
+not-standing-small spent t = omega arith
+not-standing-small standing t = absurd t
+not-standing-small (ended Drained) t = omega arith
+not-standing-small (ended Waiting) t = omega arith
+not-standing-small (ended (Fault NotOffered)) t = omega arith
+not-standing-small (ended (Fault BadOperand)) t = omega arith
+not-standing-small (ended (Fault TooLong)) t = omega arith
+not-standing-small (ended (Fault BadNext)) t = omega arith
+
+-- a turn that ends executes nothing
+no-exec : {S : Type 0} {e : End} {n : ℕ} {t : S} → ends e ≡ exec n t → ⊥
+no-exec r = true≢false cc
+
+module _ {S : Type 0} (turn : S → List ℕ → Turn S) where
+  -- what each executed turn keeps of the machine, a run keeps
+  pub runs-keep : (Q : S → Type 0) → ((s t : S) (w : List ℕ) (n : ℕ) → turn s w ≡ exec n t → Q s → Q t) → (b : ℕ) (a : Line S) → Q (a .machine) → Q (runs turn b a .line .machine)
+  unfolding runs
+  runs-keep Q keeps zero a q = q
+  runs-keep Q keeps (suc b) a q = go (next turn a) refl (λ n s h. runs-keep Q keeps b (beyond a n s) h)
+    where
+      go : (t : Turn S) → next turn a ≡ t → ((n : ℕ) (s : S) → Q s → Q (runs turn b (beyond a n s) .line .machine)) → Q (runs turn (suc b) a .line .machine)
+      go (ends e) r ih = rw (runs-ends turn b a e r) q
+      go (exec n s) r ih = rw (runs-exec turn b a n s r) (ih n s (keeps (a .machine) s (a .words) n r q))
+
+  pub runs-not-standing : (b : ℕ) (a : Line S) → NotStanding (runs turn b a .answer)
+  unfolding runs
+  runs-not-standing zero a = tt
+  runs-not-standing (suc b) a = go (next turn a) refl (λ n s. runs-not-standing b (beyond a n s))
+    where
+      go : (t : Turn S) → next turn a ≡ t → ((n : ℕ) (s : S) → NotStanding (runs turn b (beyond a n s) .answer)) → NotStanding (runs turn (suc b) a .answer)
+      go (ends e) r ih = rw (runs-ends turn b a e r) tt
+      go (exec n s) r ih = rw (runs-exec turn b a n s r) (ih n s)
+
+  -- "The run stops after a number of commands never above its budget"
+  pub runs-count : (b : ℕ) (a : Line S) → runs turn b a .count ≤ b
+  unfolding runs
+  runs-count zero a = omega arith
+  runs-count (suc b) a = go (next turn a) refl (λ n s. runs-count b (beyond a n s))
+    where
+      go : (t : Turn S) → next turn a ≡ t → ((n : ℕ) (s : S) → runs turn b (beyond a n s) .count ≤ b) → runs turn (suc b) a .count ≤ suc b
+      go (ends e) r ih = rw (runs-ends turn b a e r) (omega arith)
+      go (exec n s) r ih = rw (runs-exec turn b a n s r) (omega (arith, ih n s))
+
+  -- where every turn ends, a run leaves the line
+  pub runs-still : ((s : S) (w : List ℕ) (n : ℕ) (t : S) → turn s w ≡ exec n t → ⊥) → (b : ℕ) (a : Line S) → runs turn b a .line ≡ a
+  unfolding runs
+  runs-still never zero a = refl
+  runs-still never (suc b) a = go (next turn a) refl
+    where
+      go : (t : Turn S) → next turn a ≡ t → runs turn (suc b) a .line ≡ a
+      go (ends e) r = rw (runs-ends turn b a e r)
+      go (exec n s) r = absurd (never (a .machine) (a .words) n s r)
+
+-- ---- what an executed command keeps
+
+-- a cursor that a turn defines is good
+abbrev GoodAction : Action → Type 0
+GoodAction (A.Update r) = Unit {0}
+GoodAction (A.Fill r colour rop) = Unit {0}
+GoodAction (A.Copy from r rop) = Unit {0}
+GoodAction (A.Define s) = shapeGood s ≡ true
+GoodAction (A.Fence number) = Unit {0}
+GoodAction A.Nothing = Unit {0}
+
+-- the checks of a row make its action good
+good-action : (k : Kind) (w : List ℕ) → entry k .headGood w ≡ true → GoodAction (entry k .action w)
+unfolding entry
+good-action Update w e = tt
+good-action RectFill w e = tt
+good-action RectCopy w e = tt
+good-action RectRopFill w e = tt
+good-action RectRopCopy w e = tt
+good-action DefineAlphaCursor w e = e
+good-action UpdateVerbose w e = tt
+good-action Fence w e = tt
+good-action Escape w e = tt
+good-action Foreign w e = tt
+
+good-found : (a : Action) (n : ℕ) (w : List ℕ) → Found a n w → GoodAction a
+good-found a n w f = rw (← (f .action)) (good-action (kindIn w) w (f .head))
+
+-- A machine with a screen as long as this one, and as this one from place `mode` on, a cursor image of 4,096 words, and a defined cursor that is good.
+pub record Sound (mode : ℕ) (screen : List ℕ) (m : Machine) : Type 0 where
+  pub same-length : length (m .screen) ≡ length screen
+  pub beyond-mode : (k : ℕ) → mode ≤ k → getD (m .screen) k 0 ≡ getD screen k 0
+  pub cursor : length (m .cursor) ≡ 4096
+  pub defined : definedGood (m .marks .defined) ≡ true
+
+screen-length : (s : Scene) (a : Action) (screen : List ℕ) → length (screenAfter s a screen) ≡ length screen
+unfolding screenAfter
+screen-length s (A.Update r) screen = length-updated (s .width) (s .rows) r (s .framebuffer) screen
+screen-length s (A.Fill r colour rop) screen = length-filled (s .width) (s .rows) r colour rop screen
+screen-length s (A.Copy from r rop) screen = length-copied (s .width) (s .rows) (from .x) (from .y) r rop screen
+screen-length s (A.Define shape) screen = refl
+screen-length s (A.Fence number) screen = refl
+screen-length s A.Nothing screen = refl
+
+-- places from width·rows on are in none of the rows
+pub beyond-rows : (width rows k : ℕ) → 0 < width → width * rows ≤ k → ltb (k / width) rows ≡ false
+beyond-rows width rows k wide h = le-ltb (k / width) rows (le-div-iff-mul-le wide .1 (rw (mul-comm rows width) h))
+
+and-no : (a b : Bool) → b ≡ false → a && b ≡ false
+and-no true b e = e
+and-no false b e = refl
+
+beyond-area : (width rows : ℕ) (r : Rect) (k : ℕ) → 0 < width → width * rows ≤ k → inArea width rows r k ≡ false
+unfolding inArea
+beyond-area width rows r k wide h = and-no (inRect width (r .x) (r .y) (r .w) (r .h) k) (ltb (k / width) rows) (beyond-rows width rows k wide h)
+
+beyond-moves : (width rows sx sy : ℕ) (r : Rect) (k : ℕ) → 0 < width → width * rows ≤ k → moves width rows sx sy r k ≡ false
+unfolding moves
+beyond-moves width rows sx sy r k wide h = rw (beyond-area width rows r k wide h)
+
+-- "No pixel outside the cut destination changes": none behind the mode
+module _ (s : Scene) (screen : List ℕ) (k : ℕ) (wide : 0 < s .width) (h : s .width * s .rows ≤ k) where
+  outside : (r : Rect) → inArea (s .width) (s .rows) r k ≡ false
+  outside r = beyond-area (s .width) (s .rows) r k wide h
+
+  screen-there : (a : Action) → k < length screen → getD (screenAfter s a screen) k 0 ≡ getD screen k 0
+  unfolding screenAfter
+  screen-there (A.Update r) l = update-outside (s .width) (s .rows) r screen k l (s .framebuffer) (outside r)
+  screen-there (A.Fill r colour rop) l = fill-outside (s .width) (s .rows) r screen k l colour rop (outside r)
+  screen-there (A.Copy from r rop) l =
+      copy-outside (s .width) (s .rows) r screen k l (from .x) (from .y) rop (beyond-moves (s .width) (s .rows) (from .x) (from .y) r k wide h)
+  screen-there (A.Define shape) l = refl
+  screen-there (A.Fence number) l = refl
+  screen-there A.Nothing l = refl
+
+  screen-beyond : (a : Action) → getD (screenAfter s a screen) k 0 ≡ getD screen k 0
+  screen-beyond a =
+      cases (ltb k (length screen))
+      (λ t. screen-there a (ltb-true k (length screen) t))
+      (λ f.
+      let l : length screen ≤ k = ltb-false k (length screen) f in
+      List·getD-eq-default (screenAfter s a screen) 0 (rw (screen-length s a screen) l)
+      ∙ sym (List·getD-eq-default screen 0 l))
+
+cursor-length : (a : Action) (w cursor : List ℕ) → Ready a (length w) → length cursor ≡ 4096 → length (cursorAfter a w cursor) ≡ 4096
+unfolding cursorAfter
+cursor-length (A.Update r) w cursor h l = l
+cursor-length (A.Fill r colour rop) w cursor h l = l
+cursor-length (A.Copy from r rop) w cursor h l = l
+cursor-length (A.Define s) w cursor h l =
+    let n : ℕ = s .w * s .h in
+    let small : n ≤ 4096 = mul-le-mul {n₂ = 64} {m₂ = 64} (h .1) (h .2) in
+    let there : 6 + n ≤ length w = h .0 in
+    rw (length-append, length-take, length-drop 6 w, length-drop n cursor, l) (omega arith)
+cursor-length (A.Fence number) w cursor h l = l
+cursor-length A.Nothing w cursor h l = l
+
+defined-kept : (a : Action) (m : Marks) → GoodAction a → definedGood (m .defined) ≡ true → definedGood (marksAfter a m .defined) ≡ true
+unfolding definedAfter definedGood
+defined-kept (A.Update r) m g e = e
+defined-kept (A.Fill r colour rop) m g e = e
+defined-kept (A.Copy from r rop) m g e = e
+defined-kept (A.Define s) m g e = g
+defined-kept (A.Fence number) m g e = e
+defined-kept A.Nothing m g e = e
+
+module _ (s : Scene) (screen : List ℕ) (wide : 0 < s .width) where
+  -- sound in this scene
+  abbrev Right : Machine → Type 0
+  Right = Sound (s .width * s .rows) screen
+
+  sound-done : (m : Machine) (a : Action) (n : ℕ) (w : List ℕ) → Found a n w → Right m → Right (done s a (take n w) m)
+  unfolding done
+  sound-done m a n w f h = record {
+    same-length = screen-length s a (m .screen) ∙ h .same-length;
+    beyond-mode = λ k l. screen-beyond s (m .screen) k wide l a ∙ h .beyond-mode k l;
+    cursor = ap {B = ℕ} (λ (l : List ℕ). length l) (f .own (m .cursor)) ∙ cursor-length a w (m .cursor) (f .ready) (h .cursor);
+    defined = defined-kept a (m .marks) (good-found a n w f) (h .defined);
+  }
+
+  sound-found : (cap : ℕ) (m t : Machine) (w : List ℕ) (n : ℕ) (f : Turn (Option Action)) → 1 ≤ length w → findsIn tt cap w ≡ f
+      → onMachine (done s) m w f ≡ exec n t → Right m → Right t
+  sound-found cap m t w n (ends e) l q r h = absurd (no-exec r)
+  sound-found cap m t w n (exec k none) l q r h = absurd (no-exec r)
+  sound-found cap m t w n (exec k (some a)) l q r h =
+      let same : done s a (take k w) m ≡ t = cc in
+      rw (← same) (sound-done m a k w (found cap w a k l q) h)
+
+  -- an executed turn keeps a sound machine
+  pub sound-exec : (cap : ℕ) (m t : Machine) (w : List ℕ) (n : ℕ) → turnOf cap (table s) m w ≡ exec n t → Right m → Right t
+  unfolding turnOf
+  sound-exec cap m t [] n r h = absurd (no-exec r)
+  sound-exec cap m t (x ∷ w) n r h =
+      sound-found cap m t (x ∷ w) n _ (omega arith) refl (sym (turn-found knownOf (done s) cap m (x ∷ w)) ∙ r) h
+
+  -- and so does one of a run
+  pub sound-turn : (g : Ring) (after : ℕ) (m t : Machine) (w : List ℕ) (n : ℕ) → turnIn s g after m w ≡ exec n t → Right m → Right t
+  unfolding turnIn unless
+  sound-turn g after m t w n q h =
+      cases (nextGood g after)
+      (λ y. sound-exec (carried (g .min) (g .max)) m t w n (rw y at q) h)
+      (λ f. absurd (no-exec (rw f at q)))
+
+-- no turn executes where NEXT_CMD is unusable
+never-next : (s : Scene) (g : Ring) (after : ℕ) → nextGood g after ≡ false → (m : Machine) (w : List ℕ) (n : ℕ) (t : Machine) → turnIn s g after m w ≡ exec n t → ⊥
+unfolding turnIn unless
+never-next s g after f m w n t q = no-exec (rw f at q)
+
+-- ---- a run in a ring memory
+
+-- what a run leaves of the ring memory and of the remembered ring
+pub record Stays (g : Ring) (ring : List ℕ) (o : RingOutcome) : Type 0 where
+  pub not-standing : NotStanding (o .answer)
+  -- "The run changes no other ring word, and none if it consumed nothing."
+  pub ring-length : length (o .ring) ≡ length ring
+  pub other-words : (i : ℕ) → (i ≡ 3 → ⊥) → getD (o .ring) i 0 ≡ getD ring i 0
+  pub untouched : o .count ≡ 0 → o .ring ≡ ring
+  -- MIN and MAX are those remembered, and STOP stays in the ring
+  pub min : o .place .min ≡ g .min
+  pub max : o .place .max ≡ g .max
+  pub stop-low : g .min ≤ g .stop → g .stop < g .max → g .min ≤ o .place .stop
+  pub stop-high : g .min ≤ g .stop → g .stop < g .max → o .place .stop < g .max
+
+module _ (s : Scene) (g : Ring) (budget : ℕ) (ring : List ℕ) (m : Machine) where
+  abbrev there : ℕ
+  there = nextOf ring / 4
+
+  abbrev waits : List ℕ
+  waits = waiting ring (g .min) (g .max) (g .stop) there
+
+  abbrev did : LineRun Machine
+  did = runs (turnIn s g (nextOf ring)) budget (record { words = waits; machine = m })
+
+  abbrev gone : ℕ
+  gone = length waits - length (did .line .words)
+
+  -- STOP has passed no more words than wait, and none where NEXT_CMD is unusable
+  gone-in : g .min ≤ g .stop → g .stop < g .max → InRing (g .min) (g .max) (g .stop) gone
+  unfolding waiting
+  gone-in a b =
+      cases (nextGood g (nextOf ring))
+      (λ y.
+      let q = next-says g (nextOf ring) y in
+      let c = between-carried (g .min) (g .max) (g .stop) there a b (q .0) (q .1) in
+      let l : length waits ≡ between (g .min) (g .max) (g .stop) there = length-words ring (g .min) (g .max) (g .stop) (between (g .min) (g .max) (g .stop) there) in
+      record { from = a; below = b; held = omega arith })
+      (λ f.
+      let still = runs-still (turnIn s g (nextOf ring)) (never-next s g (nextOf ring) f) budget (record { words = waits; machine = m }) in
+      let l : length (did .line .words) ≡ length waits = ap (λ (a : Line Machine). length (a .words)) still in
+      record { from = a; below = b; held = omega arith })
+
+  stop-stays : g .min ≤ g .stop → g .stop < g .max → (g .min ≤ ahead (g .min) (g .max) (g .stop) gone) × (ahead (g .min) (g .max) (g .stop) gone < g .max)
+  stop-stays a b = ahead-in (g .min) (g .max) (g .stop) gone (gone-in a b)
+
+  stays-words : Stays g ring (left g ring waits did)
+  unfolding left stamped
+  stays-words = record {
+    not-standing = runs-not-standing (turnIn s g (nextOf ring)) budget (record { words = waits; machine = m });
+    ring-length = cases (eqb (did .count) 0) (λ t. rw t) (λ f. rw f (length-set ring 3 _));
+    other-words = λ i h. cases (eqb (did .count) 0) (λ t. rw t) (λ f. rw f (getD-set-other ring 3 i _ 0 h));
+    untouched = λ e. let t = eq-eqb (did .count) 0 e in rw t;
+    min = refl;
+    max = refl;
+    stop-low = λ a b. stop-stays a b .0;
+    stop-high = λ a b. stop-stays a b .1;
+  }
+
+  pub run-stays : Stays g ring (runIn s g budget ring m)
+  unfolding runIn runWords
+  run-stays =
+      cases (fitting g (length ring) (length (m .cursor)))
+      (λ t. rw t stays-words)
+      (λ f. rw f (record {
+        not-standing = tt;
+        ring-length = refl;
+        other-words = λ i h. refl;
+        untouched = λ e. refl;
+        min = refl;
+        max = refl;
+        stop-low = λ a b. a;
+        stop-high = λ a b. b;
+      }))
+
+  -- "The run stops after a number of commands never above its budget"
+  pub run-count : runIn s g budget ring m .count ≤ budget
+  unfolding runIn runWords left
+  run-count =
+      cases (fitting g (length ring) (length (m .cursor)))
+      (λ t. rw t (runs-count (turnIn s g (nextOf ring)) budget (record { words = waits; machine = m })))
+      (λ f. rw f (omega arith))
+
+  -- a sound machine stays sound
+  pub run-sound : (screen : List ℕ) → 0 < s .width → Sound (s .width * s .rows) screen m → Sound (s .width * s .rows) screen (runIn s g budget ring m .machine)
+  unfolding runIn runWords left
+  run-sound screen wide h =
+      cases (fitting g (length ring) (length (m .cursor)))
+      (λ t. rw t (runs-keep (turnIn s g (nextOf ring)) (Sound (s .width * s .rows) screen) (λ a b w n. sound-turn s screen wide g (nextOf ring) a b w n) budget (record { words = waits; machine = m }) h))
+      (λ f. rw f h)
+
+-- ---- a run of a device
+
+-- the numbers that a run is refused with
+pub data Refusal : ℕ → Type 0 where
+  lent-length : Refusal 20
+  disabled : Refusal 21
+  not-configured : Refusal 22
+  fault-stands : Refusal 23
+  too-large : Refusal 24
+
+module _ (d : Device) (l : Lent) where
+  -- what a run that is not refused has shown
+  pub record Open (g : Ring) : Type 0 where
+    pub is-well-formed : wellFormed d ≡ true
+    pub lengths : lentGood d l ≡ true
+    pub is-configured : d .registers .config ≡ true
+    pub is-enabled : d .registers .enable ≡ true
+    pub mode : modeFits d ≡ true
+    pub running : d .condition ≡ Running g
+
+  abbrev pub ranIn : ℕ → Ring → RingOutcome
+  ranIn budget g = runIn (scene (widthOf d) (heightOf d) (l .framebuffer)) g budget (l .ring) (machineOf d l)
+
+  by-condition : (P : RunOutcome → Type 0) (budget : ℕ) (c : Condition) → d .condition ≡ c
+      → ((a : ℕ) → Refusal a → P (refusedRun d l a))
+      → ((g : Ring) → d .condition ≡ Running g → P (ran d l (ranIn budget g)))
+      → P (runBy d l budget c)
+  unfolding runBy
+  by-condition P budget Idle e no-run goes = no-run 22 not-configured
+  by-condition P budget (Running g) e no-run goes = goes g e
+  by-condition P budget (Faulted c) e no-run goes = no-run 23 fault-stands
+
+  -- what holds of every refusal, and of every run that goes on, holds of every run
+  pub by-run : (P : RunOutcome → Type 0) (budget : ℕ)
+      → ((a : ℕ) → Refusal a → P (refusedRun d l a))
+      → ((g : Ring) → Open g → P (ran d l (ranIn budget g)))
+      → P (runOf d l budget)
+  unfolding runOf
+  by-run P budget no-run goes =
+      by-cond P (wellFormed d)
+      (λ m. by-cond P (lentGood d l)
+      (λ n. by-cond P (d .registers .config)
+      (λ c. by-cond P (d .registers .enable)
+      (λ e. by-cond P (modeFits d)
+      (λ f. by-condition P budget (d .condition) refl no-run
+      (λ g r. goes g (record { is-well-formed = m; lengths = n; is-configured = c; is-enabled = e; mode = f; running = r })))
+      (λ f. no-run 24 too-large))
+      (λ e. no-run 21 disabled))
+      (λ c. no-run 22 not-configured))
+      (λ n. no-run 20 lent-length))
+      (λ m. no-run 22 not-configured)
+
+  module _ (g : Ring) (o : Open g) where
+    -- the machine that such a run starts with is sound
+    pub open-sound : Sound (widthOf d * heightOf d) (l .screen) (machineOf d l)
+    unfolding lentGood
+    open-sound =
+        let a = both (eqb (length (l .ring)) (memoryOf d / 4)) _ (o .lengths) in
+        let b = both (eqb (length (l .framebuffer)) (pixelsOf d)) _ (a .1) in
+        let c = both (eqb (length (l .screen)) (pixelsOf d)) _ (b .1) in
+        record { same-length = refl; beyond-mode = λ k h. refl; cursor = eqb-true _ _ (c .1); defined = well-formed d (o .is-well-formed) .defined }
+
+    -- and so is the one that it leaves
+    pub left-sound : (budget : ℕ) → Sound (widthOf d * heightOf d) (l .screen) (ranIn budget g .machine)
+    left-sound budget =
+        run-sound (scene (widthOf d) (heightOf d) (l .framebuffer)) g budget (l .ring) (machineOf d l) (l .screen) (well-formed d (o .is-well-formed) .width-low) open-sound
+
+    pub left-stays : (budget : ℕ) → Stays g (l .ring) (ranIn budget g)
+    left-stays budget = run-stays (scene (widthOf d) (heightOf d) (l .framebuffer)) g budget (l .ring) (machineOf d l)
+
+    -- and the remembered ring good
+    pub open-ring : placed g (memoryOf d / 4) ≡ true
+    unfolding conditionGood
+    open-ring =
+        let c : conditionGood (memoryOf d) (d .registers .config) (d .condition) ≡ true = well-formed d (o .is-well-formed) .condition in
+        let q : conditionGood (memoryOf d) true (Running g) ≡ true = rw (o .is-configured, o .running) at c in
+        q
+
+  ring-kept : (words : ℕ) (g : Ring) (r : RingOutcome) → Stays g (l .ring) r → placed g words ≡ true → placed (r .place) words ≡ true
+  ring-kept words g r s e =
+      let p = placed-when g words e in
+      when-placed (r .place) words (record {
+        past-head = rw (s .min) (p .past-head);
+        fits = rw (s .max) (p .fits);
+        size = rw (s .min, s .max) (p .size);
+        from = rw (s .min) (s .stop-low (p .from) (p .below));
+        below = rw (s .max) (s .stop-high (p .from) (p .below));
+      })
+
+  condition-kept : (memory : ℕ) (a : Answer) (g : Ring) → placed g (memory / 4) ≡ true → conditionGood memory true (conditionAfter a g) ≡ true
+  unfolding conditionGood conditionAfter
+  condition-kept memory spent g e = e
+  condition-kept memory standing g e = e
+  condition-kept memory (ended Drained) g e = e
+  condition-kept memory (ended Waiting) g e = e
+  condition-kept memory (ended (Fault c)) g e = refl
+
+  settled-well-formed : (budget : ℕ) (g : Ring) → Open g → wellFormed (settled d (ranIn budget g)) ≡ true
+  settled-well-formed budget g o =
+      let w = well-formed d (o .is-well-formed) in
+      let place = ring-kept (memoryOf d / 4) g (ranIn budget g) (left-stays g o budget) (open-ring g o) in
+      well-formed-of (settled d (ranIn budget g)) (record {
+        memory-words = w .memory-words;
+        memory-low = w .memory-low;
+        memory-high = w .memory-high;
+        pixels-low = w .pixels-low;
+        pixels-high = w .pixels-high;
+        width-low = w .width-low;
+        width-high = w .width-high;
+        height-low = w .height-low;
+        height-high = w .height-high;
+        condition = rw (o .is-configured) (condition-kept (memoryOf d) (ranIn budget g .answer) (ranIn budget g .place) place);
+        defined = left-sound g o budget .defined;
+      })
+
+  -- a run leaves a well-formed device well-formed
+  pub run-well-formed : (budget : ℕ) → wellFormed d ≡ true → wellFormed (runOf d l budget .device) ≡ true
+  run-well-formed budget m = by-run (λ (r : RunOutcome). wellFormed (r .device) ≡ true) budget (λ a r. m) (settled-well-formed budget)
+
+  -- ---- "Answers 20 to 34 change nothing; a run's count is then 0"
+
+  pub refused-run : (budget : ℕ) → 20 ≤ runOf d l budget .answer
+      → runOf d l budget ≡ refusedRun d l (runOf d l budget .answer)
+  refused-run budget =
+      by-run (λ (r : RunOutcome). 20 ≤ r .answer → r ≡ refusedRun d l (r .answer)) budget
+      (λ a r h. refl)
+      (λ g o h. absurd (omega (arith, not-standing-small (ranIn budget g .answer) (left-stays g o budget .not-standing))))

@@ -1,0 +1,309 @@
+-- Demand 1: no call does harm, whatever the device, the lent memories and the calls before; and every history keeps a device well-formed.
+-- Assumes nothing.
+use mathlib.Core.Path.{_≡_, refl, sym, ap, _∙_}
+use mathlib.Core.Bool.{true}
+use mathlib.Core.List.{List, [], _∷_}
+use mathlib.Core.Logic.{inl, inr}
+use Prim.Native.Nat.{ℕ, zero, suc, _*_, _≤_, _<_}
+use native.Mathlib.Omega.{arith}
+use lib.Dec.{eqb, ltb}
+use lib.ListN.{length, getD, List·getD-eq-default}
+use borrow.Author.Tests.{ltb-true, ltb-false, eq-eqb}
+use borrow.Table.Steps.{cases}
+use Rattle.execution.specs.declared.End.the-variants.{Drained, Waiting, Fault}
+use Rattle.execution.specs.declared.Cause.the-variants.{NotOffered, BadOperand, TooLong, BadNext}
+use Rattle.execution.specs.Claim.{Answer, spent, standing, ended, answerNumber}
+use Rattle.ring.specs.declared.Ring.{Ring}
+use Rattle.ring.specs.Append.{canAppend, appendOf}
+use Rattle.ring.proofs.AppendLaws.{length-append-to, append-elsewhere}
+use Rattle.register.specs.declared.Register.{Register}
+use Rattle.register.specs.declared.Register.the-variants.{Writes, Reads, Absent}
+use Rattle.register.specs.declared.Writable.the-variants.{ConfigDone}
+use Rattle.register.specs.Numbers.{registerOf}
+use Rattle.picture.specs.declared.Overlay.{Overlay}
+use Rattle.picture.specs.Picture.{composed}
+use Rattle.picture.proofs.Laws.{length-composed, beyond-stays}
+use Rattle.device.specs.declared.Device.{Device}
+use Rattle.device.specs.Device.{pixelsOf, widthOf, heightOf, definedOf, sizesGood, modeFits, wellFormed}
+use Rattle.device.specs.Making.{madeOf}
+use Rattle.register_read.specs.Registers.{readBy, readOf}
+use Rattle.register_write.specs.Registers.{written}
+use Rattle.adapter.specs.Picture.{cursorOver, lengthsGood, pictureOf}
+use Rattle.device_run.specs.Run.{Lent, RunOutcome, machineOf, refusedRun, ran, runOf}
+use Rattle.effect.specs.Effects.{scene}
+use Rattle.device.proofs.Laws.{well-formed}
+use Rattle.register_write.proofs.Kept.{sizes-kept, marks-kept}
+use Rattle.register_write.proofs.Refusals.{Why, no-register, read-only, bad-value, wrong-length, ring-refused, is-taken, why, ill-formed-write}
+use Rattle.history.proofs.KeptByRun.{NotStanding, Refusal, lent-length, disabled, not-configured, fault-stands, too-large, Open, ranIn, by-run, left-sound, left-stays, open-sound, refused-run, run-count, beyond-rows}
+use Rattle.history.specs.Calls.{World, Call, make, write, read, run, append, picture, offscreen, fence, passed, lend, CallOutcome, perform, performAll}
+use Rattle.history.specs.Harm.{row, among, SameBut, InMode, WriteChanges, RunChanges, AppendChanges, PictureChanges, OnlyNamed, Safe, Harmless}
+use Rattle.history.proofs.Starts.{writes-number, refused-stays}
+
+-- ---- answers
+
+make-answers : (memory pixels : ℕ) (w : World) → among (perform (make memory pixels) w .answer) (row (make memory pixels)) ≡ true
+unfolding perform madeOf
+make-answers memory pixels w = cases (sizesGood memory pixels) (λ t. rw t) (λ f. rw f)
+
+why-row : (d : Device) (ring : List ℕ) (index value a : ℕ) → Why d ring index value a → among a (row (write index value)) ≡ true
+why-row d ring index value a (no-register e) = cases (eqb index 20) (λ t. rw t) (λ f. rw f)
+why-row d ring index value a (read-only r e) = cases (eqb index 20) (λ t. rw t) (λ f. rw f)
+why-row d ring index value a (bad-value w e f) = cases (eqb index 20) (λ t. rw t) (λ f. rw f)
+why-row d ring index value a (wrong-length e o n) = rw (eq-eqb index 20 (writes-number index ConfigDone e))
+why-row d ring index value a (ring-refused e o n u) = cases (eqb index 20) (λ t. rw t) (λ f. rw f)
+why-row d ring index value a (is-taken w e t r) = cases (eqb index 20) (λ t. rw t) (λ f. rw f)
+
+write-answers : (index value : ℕ) (w : World) → among (perform (write index value) w .answer) (row (write index value)) ≡ true
+unfolding perform
+write-answers index value w =
+    let d = w .device in
+    let ring = w .lent .ring in
+    cases (wellFormed d)
+    (λ m. why-row d ring index value (written d ring index value .answer) (why d ring index value m))
+    (λ f. rw (ill-formed-write d ring index value f) (cases (eqb index 20) (λ t. rw t) (λ f. rw f)))
+
+read-row : (d : Device) (r : Register) → among (readBy d r .answer) (0 ∷ 30 ∷ []) ≡ true
+unfolding readBy
+read-row d (Writes w) = refl
+read-row d (Reads r) = refl
+read-row d Absent = refl
+
+read-answers : (index : ℕ) (w : World) → among (perform (read index) w .answer) (row (read index)) ≡ true
+unfolding perform readOf
+read-answers index w = cases (wellFormed (w .device)) (λ t. rw t (read-row (w .device) (registerOf index))) (λ f. rw f)
+
+not-standing-row : (budget : ℕ) (a : Answer) → NotStanding a → among (answerNumber a) (row (run budget)) ≡ true
+not-standing-row budget spent t = refl
+not-standing-row budget standing t = refl
+not-standing-row budget (ended Drained) t = refl
+not-standing-row budget (ended Waiting) t = refl
+not-standing-row budget (ended (Fault NotOffered)) t = refl
+not-standing-row budget (ended (Fault BadOperand)) t = refl
+not-standing-row budget (ended (Fault TooLong)) t = refl
+not-standing-row budget (ended (Fault BadNext)) t = refl
+
+refusal-row : (budget a : ℕ) → Refusal a → among a (row (run budget)) ≡ true
+refusal-row budget a lent-length = refl
+refusal-row budget a disabled = refl
+refusal-row budget a not-configured = refl
+refusal-row budget a fault-stands = refl
+refusal-row budget a too-large = refl
+
+run-answers : (budget : ℕ) (w : World) → among (perform (run budget) w .answer) (row (run budget)) ≡ true
+unfolding perform
+run-answers budget w =
+    let d = w .device in
+    let m = w .lent in
+    by-run d m (λ (o : RunOutcome). among (o .answer) (row (run budget)) ≡ true) budget
+    (refusal-row budget)
+    (λ g o.
+    not-standing-row budget (ranIn d m budget g .answer)
+    (left-stays d m g o budget .not-standing))
+
+append-answers : (word : ℕ) (w : World) → among (perform (append word) w .answer) (row (append word)) ≡ true
+unfolding perform appendOf
+append-answers word w = cases (canAppend (w .lent .ring)) (λ t. rw t) (λ f. rw f)
+
+picture-answers : (w : World) → among (perform picture w .answer) (row picture) ≡ true
+unfolding perform pictureOf
+picture-answers w =
+    let d = w .device in
+    cases (wellFormed d)
+    (λ m. cases (lengthsGood (pixelsOf d) (length (w .lent .screen)) (length (w .lent .cursor)) (length (w .output)))
+    (λ l. cases (modeFits d) (λ t. rw (m, l, t)) (λ f. rw (m, l, f)))
+    (λ l. rw (m, l)))
+    (λ f. rw f)
+
+-- ---- what changes
+
+pub all-same : {changes : ℕ → Type 0} (l : List ℕ) → SameBut changes l l
+all-same l = record { same-length = refl; elsewhere = λ i h. refl }
+
+write-changes : (index value : ℕ) (w : World) → WriteChanges w (perform (write index value) w .world)
+unfolding perform
+write-changes index value w = record {
+  sizes = sizes-kept (w .device) (w .lent .ring) index value;
+  marks = marks-kept (w .device) (w .lent .ring) index value;
+  lent = refl;
+  output = refl;
+}
+
+-- not below is at least
+not-below : (i n : ℕ) → (i < n → ⊥) → n ≤ i
+not-below i n h = cases (ltb i n) (λ t. absurd (h (ltb-true i n t))) (λ f. ltb-false i n f)
+
+-- the world that a run's outcome leaves
+abbrev ranWorld : World → RunOutcome → World
+ranWorld w o = record { device = o .device; lent = o .lent; output = w .output }
+
+module _ (w : World) where
+  abbrev d : Device
+  d = w .device
+
+  abbrev m : Lent
+  m = w .lent
+
+  refused-run-changes : (a : ℕ) → RunChanges w (ranWorld w (refusedRun d m a))
+  refused-run-changes a = record {
+    sizes = refl;
+    registers = refl;
+    plane = refl;
+    ring = all-same (m .ring);
+    screen = all-same (m .screen);
+    cursor = refl;
+    framebuffer = refl;
+    output = refl;
+  }
+
+  ran-changes : (budget : ℕ) (g : Ring) → Open d m g
+      → RunChanges w (ranWorld w (ran d m (ranIn d m budget g)))
+  ran-changes budget g o =
+      let s = left-stays d m g o budget in
+      let before = open-sound d m g o in
+      let after = left-sound d m g o budget in
+      record {
+        sizes = refl;
+        registers = refl;
+        plane = refl;
+        ring = record { same-length = s .ring-length; elsewhere = s .other-words };
+        screen = record { same-length = after .same-length; elsewhere = λ i h. after .beyond-mode i (not-below i (widthOf d * heightOf d) h) };
+        cursor = after .cursor ∙ sym (before .cursor);
+        framebuffer = refl;
+        output = refl;
+      }
+
+  run-changes : (budget : ℕ) → RunChanges w (perform (run budget) w .world)
+  unfolding perform
+  run-changes budget =
+      by-run d m (λ (o : RunOutcome). RunChanges w (ranWorld w o)) budget
+      (λ a r. refused-run-changes a)
+      (ran-changes budget)
+
+  append-changes : (word : ℕ) → AppendChanges w (perform (append word) w .world)
+  unfolding perform appendOf
+  append-changes word = record {
+    ring = record { same-length = length-append-to (m .ring) word; elsewhere = λ i h. append-elsewhere (m .ring) word i (λ e. h (inl e)) (λ e. h (inr e)) };
+    device = refl;
+    others = refl;
+    output = refl;
+  }
+
+  composed-changes : (over : Overlay) → wellFormed d ≡ true → SameBut (InMode w) (w .output) (composed (widthOf d) (heightOf d) over (m .screen) (m .cursor) (w .output))
+  composed-changes over y =
+      let width = widthOf d in
+      let height = heightOf d in
+      let l = length-composed width height (m .screen) (m .cursor) (w .output) over in
+      record {
+        same-length = l;
+        elsewhere = λ i h.
+            let far = not-below i (width * height) h in
+            cases (ltb i (length (w .output)))
+            (λ t. beyond-stays width height (m .screen) (m .cursor) (w .output) over i (ltb-true i (length (w .output)) t) (beyond-rows width height i (well-formed d y .width-low) far))
+            (λ f.
+            let k : length (w .output) ≤ i = ltb-false i (length (w .output)) f in
+            List·getD-eq-default (composed width height over (m .screen) (m .cursor) (w .output)) 0 (rw l k) ∙ sym (List·getD-eq-default (w .output) 0 k));
+      }
+
+  output-changes : SameBut (InMode w) (w .output) (pictureOf d (m .screen) (m .cursor) (w .output) .output)
+  unfolding pictureOf
+  output-changes =
+      cases (wellFormed d)
+      (λ y. cases (lengthsGood (pixelsOf d) (length (m .screen)) (length (m .cursor)) (length (w .output)))
+      (λ l. cases (modeFits d) (λ t. rw (y, l, t) (composed-changes (cursorOver d (definedOf d)) y)) (λ f. rw (y, l, f) (all-same (w .output))))
+      (λ l. rw (y, l) (all-same (w .output))))
+      (λ f. rw f (all-same (w .output)))
+
+  picture-changes : PictureChanges w (perform picture w .world)
+  unfolding perform
+  picture-changes = record { output = output-changes; device = refl; lent = refl }
+
+-- ---- demand 1
+
+call-answers : (c : Call) (w : World) → among (perform c w .answer) (row c) ≡ true
+unfolding perform
+call-answers (make memory pixels) w = make-answers memory pixels w
+call-answers (write index value) w = write-answers index value w
+call-answers (read index) w = read-answers index w
+call-answers (run budget) w = run-answers budget w
+call-answers (append word) w = append-answers word w
+call-answers picture w = picture-answers w
+call-answers offscreen w = refl
+call-answers fence w = refl
+call-answers (passed number) w = refl
+call-answers (lend l output) w = refl
+
+call-changes : (c : Call) (w : World) → OnlyNamed c w (perform c w .world)
+unfolding perform
+call-changes (make memory pixels) w = (refl, refl)
+call-changes (write index value) w = write-changes index value w
+call-changes (read index) w = refl
+call-changes (run budget) w = run-changes w budget
+call-changes (append word) w = append-changes w word
+call-changes picture w = picture-changes w
+call-changes offscreen w = refl
+call-changes fence w = refl
+call-changes (passed number) w = refl
+call-changes (lend l output) w = (refl, refl, refl)
+
+one-zero : (v i : ℕ) → v ≡ 0 → getD (v ∷ []) i 0 ≡ 0
+one-zero v zero e = e
+one-zero v (suc i) e = refl
+
+read-silent : (d : Device) (r : Register) → 20 ≤ readBy d r .answer → readBy d r .value ≡ 0
+unfolding readBy
+read-silent d (Writes w) h = absurd (omega arith)
+read-silent d (Reads r) h = absurd (omega arith)
+read-silent d Absent h = refl
+
+read-value : (d : Device) (index : ℕ) → 20 ≤ readOf d index .answer → readOf d index .value ≡ 0
+unfolding readOf
+read-value d index = cases (wellFormed d) (λ t. rw t (read-silent d (registerOf index))) (λ f. rw f (λ h. refl))
+
+call-silent : (c : Call) (w : World) → 20 ≤ perform c w .answer → (i : ℕ) → getD (perform c w .values) i 0 ≡ 0
+unfolding perform
+call-silent (make memory pixels) w h i = refl
+call-silent (write index value) w h i = refl
+call-silent (read index) w h i = one-zero (readOf (w .device) index .value) i (read-value (w .device) index h)
+call-silent (run budget) w h i =
+    let m = w .lent in
+    let q = refused-run (w .device) m budget h in
+    one-zero (runOf (w .device) m budget .count) i (ap (λ (o : RunOutcome). o .count) q)
+call-silent (append word) w h i = refl
+call-silent picture w h i = refl
+call-silent offscreen w h i = absurd (omega arith)
+call-silent fence w h i = absurd (omega arith)
+call-silent (passed number) w h i = absurd (omega arith)
+call-silent (lend l output) w h i = refl
+
+-- every call, of every device, well-formed or not, with every lent memory
+pub safe : (c : Call) (w : World) → Safe c w
+safe c w = record { answered = call-answers c w; only-named = call-changes c w; refused = refused-stays c w; refused-values = call-silent c w }
+
+-- and every list of calls
+pub no-harm : (cs : List Call) (w : World) → Harmless cs w
+no-harm [] w = tt
+no-harm (c ∷ cs) w = (safe c w, no-harm cs (perform c w .world))
+
+-- the same of a call after any others
+pub no-harm-after : (before : List Call) (c : Call) (w : World) → Safe c (performAll before w .world)
+no-harm-after before c w = safe c (performAll before w .world)
+
+-- "The run stops after a number of commands never above its budget"
+pub run-bounded : (budget : ℕ) (w : World) → getD (perform (run budget) w .values) 0 0 ≤ budget
+unfolding perform
+run-bounded budget w =
+    let d = w .device in
+    let m = w .lent in
+    by-run d m (λ (o : RunOutcome). o .count ≤ budget) budget
+    (λ a r. omega arith)
+    (λ g o. run-count (scene (widthOf d) (heightOf d) (m .framebuffer)) g budget (m .ring) (machineOf d m))
+
+-- "The run changes no other ring word, and none if it consumed nothing."
+pub run-untouched : (budget : ℕ) (w : World) → getD (perform (run budget) w .values) 0 0 ≡ 0 → perform (run budget) w .world .lent .ring ≡ w .lent .ring
+unfolding perform
+run-untouched budget w =
+    let d = w .device in
+    let m = w .lent in
+    by-run d m (λ (o : RunOutcome). o .count ≡ 0 → o .lent .ring ≡ m .ring) budget
+    (λ a r h. refl)
+    (λ g o. left-stays d m g o budget .untouched)

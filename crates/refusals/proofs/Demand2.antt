@@ -1,0 +1,387 @@
+-- Demand 2: "The device does what the published SVGA interface says, as document 01 condenses it: .. and a refusal comes exactly when its rule says so."
+--
+-- Call by call: the definition that the call's contract states an equation with, and for each refusal the if and only if. `A ↔ B` reads: A if and only
+-- if B. The rules, as Run20 for a run's answer 20, are in specs/Refusing.antt: each is document 01's, with those that are checked before it ruled out. `-0`
+-- is what is taken, `-nothing` that a refusal changes nothing, `-ill-formed` what a device value is answered that no call can have made
+-- (`device/Device.wellFormed`). Index, value, budget, word and lent memories are any.
+-- Assumes nothing.
+use mathlib.Core.Path.{_≡_, refl, sym, ap, _∙_}
+use mathlib.Core.Bool.{true, false, false≢true, true≢false}
+use mathlib.Core.List.{List}
+use mathlib.Core.Option.{none}
+use mathlib.Core.Logic.{_↔_, _⊎_, inl, inr, ⊎-elim, Iff·trans}
+use Prim.Native.Nat.{ℕ, _*_, _≤_, min}
+use native.Mathlib.Omega.{arith}
+use lib.Dec.{eqb}
+use borrow.Author.Tests.{eqb-true, eqb-false, leb-true, le-leb, lt-leb}
+use borrow.Table.Steps.{cases}
+use Rattle.geometry.proofs.Tests.{by-cond}
+use Rattle.execution.specs.declared.Cause.{Cause}
+use Rattle.execution.specs.declared.Cause.the-variants.{NotOffered, BadOperand, TooLong}
+use Rattle.execution.specs.declared.End.the-variants.{Drained, Waiting, Fault}
+use Rattle.execution.specs.Straight.{causeNumber, Turn, ends, exec, whole, ending}
+use Rattle.execution.specs.Claim.{answerNumber, verdict}
+use Rattle.ring.specs.declared.Ring.{Ring}
+use Rattle.ring.specs.Acceptance.{minOf, maxOf, nextOf, stopOf, usable}
+use Rattle.ring.specs.Waiting.{carried, nextGood}
+use Rattle.ring.specs.Append.{movedOn, canAppend, Appended, appendOf}
+use Rattle.ring.proofs.AppendLaws.{append-refused}
+use Rattle.register.specs.declared.Register.{Register}
+use Rattle.register.specs.declared.Register.the-variants.{Writes, Reads, Absent}
+use Rattle.register.specs.Numbers.{registerOf}
+use Rattle.command.specs.declared.Action.{Action}
+use Rattle.effect.specs.Effects.{scene, Machine, done}
+use Rattle.run.specs.Run.{knownOf, runIn}
+use Rattle.device.specs.declared.Condition.the-variants.{Faulted}
+use Rattle.device.specs.declared.Device.{Device}
+use Rattle.device.specs.Device.{pixelsOf, widthOf, heightOf, conditionOf, sizesGood, modeFits, wellFormed}
+use Rattle.device.specs.Making.{Creation, madeOf}
+use Rattle.register_write.specs.Answers.{WriteOutcome}
+use Rattle.register_read.specs.Answers.{Reading}
+use Rattle.adapter.specs.Picture.{Pictured, pictureOf}
+use Rattle.register_read.specs.Registers.{readBy, readOf}
+use Rattle.register_write.specs.Registers.{written}
+use Rattle.device_run.specs.Run.{Lent, RunOutcome, machineOf, ran, refusedRun, runBy, runOf}
+use Rattle.device.proofs.Kept.{make-refused}
+use Rattle.register_write.proofs.Refusals as WriteRefusals
+use Rattle.register_read.proofs.Refusals as ReadRefusals
+use Rattle.adapter.proofs.Refusals as PictureRefusals
+use Rattle.register_write.proofs.Refusals.{no-register, read-only, bad-value, wrong-length, ring-refused, is-taken}
+use Rattle.device_run.proofs.RunLaws.{run-by}
+use Rattle.refusals.specs.Refusing.{isRefusal, Sizes, Make34, Write30, Write31, Write32, Write20, Write33, Write0, Read30}
+use Rattle.refusals.specs.Refusing.{Run20, Run22, Run21, Run24, Run23, Starts, NextUsable, lineOf, turnFor, PictureLent, Picture20, Picture24, Append1}
+use Rattle.refusals.specs.Refusing.{Turn0, Turn10, HeadMissing, HeadBad, Turn12, WordsMissing, OperandBad, Executes}
+use Rattle.refusals.proofs.Reasons.{not-both, fails, sizes-good, ring-usable, not-usable, picture-lent, next-usable, ranged}
+use Rattle.refusals.proofs.Reasons.{stops-2, run-stops, run-next-unusable-count, fault-after, ring-carries}
+use Rattle.refusals.proofs.Reasons as Reasons
+use Rattle.refusals.proofs.Rules.{write-why, ended-taken, is-lent, not-lent, start, start-fits, start-ended, by-refusals, run-why}
+use Rattle.refusals.proofs.Rules.{turn-why, finds-0, finds-10, finds-1, finds-11, finds-12, finds-command}
+
+not-zero : {a : ℕ} → isRefusal a ≡ true → a ≡ 0 → ⊥
+unfolding isRefusal
+not-zero e z = false≢true (ap isRefusal (sym z) ∙ e)
+
+-- ---- making a device
+
+module _ (memory pixels : ℕ) where
+  -- `adapter::make` equals `device/Making.madeOf`: an answer and, if it is 0, a device
+  abbrev making : Creation
+  making = madeOf memory pixels
+
+  -- "M is a multiple of 4 from 10,256 to 2,097,152; P is 1 to 4,096,000; otherwise answer 34."
+  pub make-34 : (making .answer ≡ 34) ↔ Make34 memory pixels
+  make-34 = Iff·trans (make-refused memory pixels) (fails (sizesGood memory pixels) (sizes-good memory pixels))
+
+  pub make-0 : (making .answer ≡ 0) ↔ Sizes memory pixels
+  unfolding madeOf
+  make-0 =
+      cases (sizesGood memory pixels)
+      (λ t. rw t (λ e. sizes-good memory pixels .0 t, λ s. refl))
+      (λ f. rw f (λ e. absurd (omega arith), λ s. not-both (sizesGood memory pixels) (sizes-good memory pixels .1 s) f))
+
+  -- "making yields no device"
+  pub make-nothing : isRefusal (making .answer) ≡ true → making .device ≡ none
+  unfolding madeOf isRefusal
+  make-nothing = cases (sizesGood memory pixels) (λ t. rw t (λ e. absurd (false≢true e))) (λ f. rw f (λ e. refl))
+
+-- ---- register write
+
+module _ (d : Device) (ring : List ℕ) (index v : ℕ) where
+  -- `adapter::write` equals `register_write/Registers.written`: an answer and the device that is left
+  abbrev write : WriteOutcome
+  write = written d ring index v
+
+  -- "A register write checks 30, 31, 32."
+  pub write-30 : wellFormed d ≡ true → (write .answer ≡ 30) ↔ Write30 index
+  write-30 m = (write-why d ring index v m 30, λ x. WriteRefusals.only d ring index v m 30 (no-register x))
+
+  pub write-31 : wellFormed d ≡ true → (write .answer ≡ 31) ↔ Write31 index
+  write-31 m = (write-why d ring index v m 31, λ x. WriteRefusals.only d ring index v m 31 (read-only (x .0) (x .1)))
+
+  pub write-32 : wellFormed d ≡ true → (write .answer ≡ 32) ↔ Write32 index v
+  write-32 m = (
+    write-why d ring index v m 32,
+    λ x. WriteRefusals.only d ring index v m 32 (bad-value (x .0) (x .1) (fails _ (ranged (x .0) v) .1 (x .2))),
+  )
+
+  -- "CONFIG_DONE 1: first 32, then 20, then 33."
+  pub write-20 : wellFormed d ≡ true → (write .answer ≡ 20) ↔ Write20 d ring index v
+  write-20 m = (write-why d ring index v m 20, λ x. WriteRefusals.only d ring index v m 20 (wrong-length (x .0) (x .1) (x .2)))
+
+  pub write-33 : wellFormed d ≡ true → (write .answer ≡ 33) ↔ Write33 d ring index v
+  write-33 m = (
+    write-why d ring index v m 33,
+    λ x. WriteRefusals.only d ring index v m 33 (ring-refused (x .0) (x .1) (x .2) (not-usable ring .1 (x .3))),
+  )
+
+  -- else it is taken
+  pub write-0 : wellFormed d ≡ true → (write .answer ≡ 0) ↔ Write0 d ring index v
+  write-0 m = (
+    write-why d ring index v m 0,
+    λ x.
+        WriteRefusals.only d ring index v m 0
+        (is-taken (x .0) (x .1) (ranged (x .0) v .1 (x .2)) (λ c o. let y = x .3 c o in (y .0, ring-usable ring .1 (y .1)))),
+  )
+
+  -- "Answers 20 to 34 change nothing"
+  pub write-nothing : isRefusal (write .answer) ≡ true → write .device ≡ d
+  write-nothing e = WriteRefusals.refused-changes-nothing d ring index v (not-zero e)
+
+  -- a device that no call can have made has no registers
+  pub write-ill-formed : wellFormed d ≡ false → write .answer ≡ 30
+  write-ill-formed f = rw (WriteRefusals.ill-formed-write d ring index v f)
+
+-- ---- register read
+
+module _ (d : Device) (index : ℕ) where
+  -- `adapter::read` equals `register_read/Registers.readOf`: an answer and a value
+  abbrev read : Reading
+  read = readOf d index
+
+  pub read-30 : wellFormed d ≡ true → (read .answer ≡ 30) ↔ Read30 index
+  read-30 m = ReadRefusals.read-30 d index m
+
+  pub read-0 : wellFormed d ≡ true → (read .answer ≡ 0) ↔ (¬ Read30 index)
+  unfolding readOf readBy
+  read-0 m = rw m (go (registerOf index))
+    where
+      go : (r : Register) → (readBy d r .answer ≡ 0) ↔ (¬ (r ≡ Absent))
+      go (Writes w) = (λ e z. true≢false cc, λ n. refl)
+      go (Reads r) = (λ e z. true≢false cc, λ n. refl)
+      go Absent = (λ e. absurd (omega arith), λ n. absurd (n refl))
+
+  -- "Reading an absent register gives 30 and value 0." A device that no call can have made has no registers.
+  pub read-nothing : isRefusal (read .answer) ≡ true → read ≡ record { answer = 30; value = 0 }
+  unfolding readOf readBy isRefusal
+  read-nothing =
+      by-cond (λ (r : Reading). isRefusal (r .answer) ≡ true → r ≡ record { answer = 30; value = 0 }) (wellFormed d) (λ m. go (registerOf index)) (λ f e. refl)
+    where
+      go : (r : Register) → isRefusal (readBy d r .answer) ≡ true → readBy d r ≡ record { answer = 30; value = 0 }
+      go (Writes w) e = absurd (false≢true e)
+      go (Reads r) e = absurd (false≢true e)
+      go Absent e = refl
+
+-- ---- run
+
+module _ (d : Device) (l : Lent) (budget : ℕ) where
+  -- `adapter::run` equals `device_run/Run.runOf`: an answer, a count, and the device and lent memories that are left
+  abbrev run : RunOutcome
+  run = runOf d l budget
+
+  -- "A run checks 20, 22, 21, 24, 23 in that order"
+  pub run-20 : wellFormed d ≡ true → (run .answer ≡ 20) ↔ Run20 d l
+  unfolding runOf
+  run-20 m = (run-why d l m budget 20, λ x. rw (m, not-lent d l .1 x))
+
+  pub run-22 : wellFormed d ≡ true → (run .answer ≡ 22) ↔ Run22 d l
+  unfolding runOf
+  run-22 m = (run-why d l m budget 22, λ x. rw (m, is-lent d l .1 (x .0), x .1))
+
+  pub run-21 : wellFormed d ≡ true → (run .answer ≡ 21) ↔ Run21 d l
+  unfolding runOf
+  run-21 m = (run-why d l m budget 21, λ x. rw (m, is-lent d l .1 (x .0), x .1, x .2))
+
+  pub run-24 : wellFormed d ≡ true → (run .answer ≡ 24) ↔ Run24 d l
+  unfolding runOf
+  run-24 m = (
+    run-why d l m budget 24,
+    λ x. rw (m, is-lent d l .1 (x .0), x .1, x .2, lt-leb _ _ (x .3)),
+  )
+
+  pub run-23 : wellFormed d ≡ true → (run .answer ≡ 23) ↔ Run23 d l
+  unfolding runBy
+  run-23 m = (
+    run-why d l m budget 23,
+    λ x.
+        let right = is-lent d l .1 (x .0) in
+        rw (run-by d l budget (Faulted (x .4 .0)) m right (x .1) (x .2) (le-leb _ _ (x .3)) (x .4 .1)),
+  )
+
+  -- else it is not refused, and starts
+  pub run-taken : wellFormed d ≡ true → (isRefusal (run .answer) ≡ false) ↔ ((g : Ring) × Starts d l g)
+  unfolding isRefusal
+  run-taken m = (
+    by-refusals d l budget
+        (λ (o : RunOutcome). isRefusal (o .answer) ≡ false → (g : Ring) × Starts d l g)
+        (not-both (wellFormed d) m)
+        (λ x e. absurd (false≢true (sym e)))
+        (λ x e. absurd (false≢true (sym e)))
+        (λ x e. absurd (false≢true (sym e)))
+        (λ x e. absurd (false≢true (sym e)))
+        (λ x e. absurd (false≢true (sym e)))
+        (λ n g s e. (g, s)),
+    λ x. rw (start d l m (x .0) budget (x .1)) (ended-taken _ (start-ended d l m (x .0) budget (x .1))),
+  )
+
+  -- "Answers 20 to 34 change nothing; a run's count is then 0": the device and every lent memory are as they were
+  pub run-nothing : isRefusal (run .answer) ≡ true → run ≡ record { answer = run .answer; count = 0; device = d; lent = l }
+  run-nothing =
+      by-refusals d l budget
+      (λ (o : RunOutcome). isRefusal (o .answer) ≡ true → o ≡ refusedRun d l (o .answer))
+      (λ f e. refl)
+      (λ x e. refl)
+      (λ x e. refl)
+      (λ x e. refl)
+      (λ x e. refl)
+      (λ x e. refl)
+      (λ m g s e. not-both _ e (ended-taken _ (start-ended d l m g budget s)))
+
+  -- a device that no call can have made is not configured
+  pub run-ill-formed : wellFormed d ≡ false → run .answer ≡ 22
+  unfolding runOf
+  run-ill-formed f = rw f
+
+  -- A run that starts, on the ring g.
+  module _ (m : wellFormed d ≡ true) (g : Ring) (s : Starts d l g) where
+    -- it is `run/Run.runIn`: what it leaves is said there
+    pub run-starts : run ≡ ran d l (runIn (scene (widthOf d) (heightOf d) (l .framebuffer)) g budget (l .ring) (machineOf d l))
+    run-starts = start d l m g budget s
+
+    -- it answers 0, 1, 2, or 10 to 13
+    pub run-answers : (run .answer ≤ 2) ⊎ ((10 ≤ run .answer) × (run .answer ≤ 13))
+    run-answers = rw run-starts (start-ended d l m g budget s)
+
+    -- "budget used up: 2"
+    pub run-2 : (run .answer ≡ 2) ↔ (run .count ≡ budget)
+    run-2 = rw run-starts (stops-2 _ (run-stops _ g budget (l .ring) (machineOf d l) (start-fits d l m g budget s)))
+
+    -- "NEXT_CMD not a multiple of 4 or outside the ring: 13", where the budget is not used up
+    pub run-13 : (run .answer ≡ 13) ↔ ((¬ NextUsable g (nextOf (l .ring))) × (¬ (budget ≡ 0)))
+    run-13 =
+        let u = fails (nextGood g (nextOf (l .ring))) (next-usable g (nextOf (l .ring))) in
+        let w = Reasons.run-13 _ g budget (l .ring) (machineOf d l) (start-fits d l m g budget s) (ring-carries d m g (s .1) (s .4)) in
+        rw run-starts (λ e. let x = w .0 e in (u .0 (x .0), x .1), λ x. w .1 (u .1 (x .0), x .1))
+
+    pub run-13-count : run .answer ≡ 13 → run .count ≡ 0
+    run-13-count e =
+        let u = fails (nextGood g (nextOf (l .ring))) (next-usable g (nextOf (l .ring))) in
+        rw run-starts
+        (run-next-unusable-count _ g budget (l .ring) (machineOf d l) (start-fits d l m g budget s) (u .1 (run-13 .0 e .0)))
+
+    -- "a run of budget b answers as count c the smaller of b and the number of those steps. Its number is 2 if c = b, else the answer that ends straight
+    -- execution there": 0, 1, 10, 11 or 12
+    pub run-count : NextUsable g (nextOf (l .ring))
+        → (run .count ≡ min budget (whole (turnFor d l g) (lineOf d l g)))
+        × (run .answer ≡ answerNumber (verdict (eqb (run .count) budget) (ending (turnFor d l g) (lineOf d l g))))
+    run-count u =
+        let good = next-usable g (nextOf (l .ring)) .1 u in
+        let w = Reasons.run-many _ g budget (l .ring) (machineOf d l) (start-fits d l m g budget s) good (ring-carries d m g (s .1) (s .4)) in
+        rw run-starts (w .0, ap answerNumber (w .1))
+
+    -- "A fault .. stands until CONFIG_DONE 1 is accepted": one stands after the run exactly when the run answered it, and has that number
+    pub run-fault : (c : Cause) → (conditionOf (run .device) ≡ Faulted c) ↔ (run .answer ≡ causeNumber c)
+    run-fault c = rw run-starts (fault-after _ _ c)
+
+-- ---- one turn of a run, on the words w that wait in the ring g; its numbers are `execution/Straight.endNumber`
+
+module _ (d : Device) (l : Lent) (g : Ring) (m : Machine) (w : List ℕ) where
+  abbrev cap : ℕ
+  cap = carried (g .min) (g .max)
+
+  abbrev turn : Turn Machine
+  turn = turnFor d l g m w
+
+  -- what an action does to the machine
+  abbrev does : Action → List ℕ → Machine → Machine
+  does = done (scene (widthOf d) (heightOf d) (l .framebuffer))
+
+  -- "NEXT_CMD = STOP: 0."
+  pub turn-0 : (turn ≡ ends Drained) ↔ Turn0 w
+  turn-0 = (turn-why knownOf does cap m w (ends Drained), finds-0 knownOf does cap m w)
+
+  -- "Number not offered: 10."
+  pub turn-10 : (turn ≡ ends (Fault NotOffered)) ↔ Turn10 w
+  turn-10 = (turn-why knownOf does cap m w (ends (Fault NotOffered)), finds-10 knownOf does cap m w)
+
+  -- "Head incomplete: 1." "Words missing: 1."
+  pub turn-1 : (turn ≡ ends Waiting) ↔ (HeadMissing w ⊎ WordsMissing cap w)
+  turn-1 = (turn-why knownOf does cap m w (ends Waiting), finds-1 knownOf does cap m w)
+
+  -- "Cursor head bad: 11." "Raster operation above 15: 11."
+  pub turn-11 : (turn ≡ ends (Fault BadOperand)) ↔ (HeadBad w ⊎ OperandBad (knownOf m) cap w)
+  turn-11 = (turn-why knownOf does cap m w (ends (Fault BadOperand)), finds-11 knownOf does cap m w)
+
+  -- "Length above what the ring carries: 12."
+  pub turn-12 : (turn ≡ ends (Fault TooLong)) ↔ Turn12 cap w
+  turn-12 = (turn-why knownOf does cap m w (ends (Fault TooLong)), finds-12 knownOf does cap m w)
+
+  -- "Then it is executed": n words, which leave the machine s
+  pub turn-executes : ((n : ℕ) × (s : Machine) × (turn ≡ exec n s)) ↔ Executes (knownOf m) cap w
+  turn-executes = (λ x. turn-why knownOf does cap m w _ (x .2), λ x. (_, _, finds-command knownOf does cap m w x))
+
+-- ---- picture
+
+module _ (d : Device) (screen image output : List ℕ) where
+  -- `adapter::picture` equals `adapter/Picture.pictureOf`: an answer and the output that is left
+  abbrev picture : Pictured
+  picture = pictureOf d screen image output
+
+  -- "a picture 20, 24"
+  pub picture-20 : wellFormed d ≡ true → (picture .answer ≡ 20) ↔ Picture20 d screen image output
+  picture-20 m = Iff·trans (PictureRefusals.picture-20 d screen image output m) (fails (PictureRefusals.lent d screen image output) (picture-lent d screen image output))
+
+  pub picture-24 : wellFormed d ≡ true → (picture .answer ≡ 24) ↔ Picture24 d screen image output
+  picture-24 m =
+      let r = PictureRefusals.picture-24 d screen image output m in
+      let l = picture-lent d screen image output in
+      (λ e. let x = r .0 e in (l .0 (x .0), x .1), λ x. r .1 (l .1 (x .0), x .1))
+
+  pub picture-0 : wellFormed d ≡ true → (picture .answer ≡ 0) ↔ (PictureLent d screen image output × (widthOf d * heightOf d ≤ pixelsOf d))
+  unfolding pictureOf
+  picture-0 m =
+      let l = picture-lent d screen image output in
+      cases (PictureRefusals.lent d screen image output)
+      (λ t.
+      cases (modeFits d)
+      (λ f. rw (m, t, f) (λ e. (l .0 t, leb-true _ _ f), λ x. refl))
+      (λ f. rw (m, t, f) (λ e. absurd (omega arith), λ x. not-both _ (le-leb _ _ (x .1)) f)))
+      (λ t. rw (m, t) (λ e. absurd (omega arith), λ x. not-both _ (l .1 (x .0)) t))
+
+  -- "Answers 20 to 34 change nothing"
+  pub picture-nothing : isRefusal (picture .answer) ≡ true → picture .output ≡ output
+  picture-nothing e = PictureRefusals.refused-picture d screen image output (not-zero e)
+
+  -- a device that no call can have made has no mode that fits
+  pub picture-ill-formed : wellFormed d ≡ false → picture .answer ≡ 24
+  unfolding pictureOf
+  picture-ill-formed f = rw f
+
+-- ---- append: 0 taken, 1 refused
+
+module _ (ring : List ℕ) (word : ℕ) where
+  -- `ring::append` equals `ring/Append.appendOf`: an answer and the ring memory that is left
+  abbrev append : Appended
+  append = appendOf ring word
+
+  refuses : append .answer ≡ 1 → canAppend ring ≡ false
+  unfolding appendOf
+  refuses = cases (canAppend ring) (λ t. rw t (λ e. absurd (omega arith))) (λ f e. f)
+
+  -- "An append .. moves NEXT_CMD on by 4, MAX becoming MIN; if that would make it equal ring word 3, it is refused"
+  pub append-1 : (append .answer ≡ 1) ↔ Append1 ring
+  unfolding appendOf canAppend
+  append-1 =
+      cases (usable ring)
+      (λ u.
+      cases (eqb (movedOn (minOf ring) (maxOf ring) (nextOf ring)) (stopOf ring))
+      (λ t. rw (u, t) (λ e. inr (eqb-true _ _ t), λ z. refl))
+      (λ f. rw (u, f) (λ e. absurd (omega arith), λ z. absurd (⊎-elim (λ n. n (ring-usable ring .0 u)) (eqb-false _ _ f) z))))
+      (λ n. rw n (λ e. inl (not-usable ring .0 n), λ z. refl))
+
+  pub append-0 : (append .answer ≡ 0) ↔ (¬ Append1 ring)
+  unfolding appendOf
+  append-0 =
+      cases (canAppend ring)
+      (λ t. rw t (λ e x. let z : append .answer ≡ 1 = append-1 .1 x in not-both _ t (refuses z), λ n. refl))
+      (λ f. rw f (λ e. absurd (omega arith), λ n. absurd (n (append-1 .0 (rw f)))))
+
+  -- "and nothing changes"
+  pub append-nothing : append .answer ≡ 1 → append .ring ≡ ring
+  unfolding appendOf
+  append-nothing e = append-refused ring word (refuses e)
+
+-- ---- the calls that refuse nothing
+--
+-- The usable offscreen rectangle: `adapter::offscreen` equals `adapter/Offscreen.offscreenOf`, four edges.
+-- The last fence: `adapter::fence` equals `adapter/Fence.fenceOf`.
+-- Whether a fence has passed: `adapter::fence_passed` equals `adapter/Fence.fencePassed`, of the last fence and the number asked for.

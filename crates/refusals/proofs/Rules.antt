@@ -1,0 +1,210 @@
+-- The rule of each number that a register write or a run answers, as one family: an answer's rule holds.
+-- Assumes nothing.
+use mathlib.Core.Path.{_≡_, refl, subst}
+use mathlib.Core.Bool.{true, false, cond}
+use mathlib.Core.List.{List}
+use mathlib.Core.Logic.{_≢_, _↔_, _⊎_, inl, inr, ⊎-elim}
+use Prim.Native.Nat.{ℕ, _*_, _≤_}
+use native.Mathlib.Omega.{arith}
+use lib.Dec.{eqb}
+use lib.ListN.{length, take}
+use borrow.Author.Tests.{eqb-true, eqb-false, ne-eqb, leb-true, leb-false, le-leb, lt-leb}
+use borrow.Table.Steps.{cases}
+use Rattle.geometry.proofs.Tests.{by-cond}
+use Rattle.execution.specs.declared.Cause.the-variants.{NotOffered, BadOperand, TooLong, BadNext}
+use Rattle.execution.specs.declared.End.the-variants.{Drained, Waiting, Fault}
+use Rattle.execution.specs.Straight.{Turn, ends, exec}
+use Rattle.execution.specs.Table.{turnOf}
+use Rattle.execution.specs.Claim.{answerNumber}
+use Rattle.ring.specs.declared.Ring.{Ring}
+use Rattle.command.specs.declared.Action.{Action}
+use Rattle.command.specs.Commands.{Known, entry, sizeBy, kindIn, commands}
+use Rattle.command.proofs.Rules.{Ruled, foreign, no-head, bad-head, long, no-rest, bad, well, ruled, by-rule, turn-none}
+use Rattle.effect.specs.Effects.{scene}
+use Rattle.run.specs.Run.{RingOutcome, fitting, runIn}
+use Rattle.device.specs.declared.Condition.{Condition}
+use Rattle.device.specs.declared.Condition.the-variants.{Idle, Running, Faulted}
+use Rattle.device.specs.declared.Device.{Device}
+use Rattle.device.specs.Device.{pixelsOf, widthOf, heightOf, enabledOf, configuredOf, conditionOf, modeFits, wellFormed}
+use Rattle.register_write.specs.Registers.{written}
+use Rattle.device_run.specs.Run.{Lent, RunOutcome, lentGood, machineOf, ran, refusedRun, runBy, runOf}
+use Rattle.register_write.proofs.Refusals.{Why, no-register, read-only, bad-value, wrong-length, ring-refused, is-taken, why}
+use Rattle.device_run.proofs.RunLaws.{run-by}
+use Rattle.refusals.specs.Refusing.{isRefusal, Write30, Write31, Write32, Write20, Write33, Write0, RunLent, Run20, Run22, Run21, Run24, Run23, Starts}
+use Rattle.refusals.specs.Refusing.{Turn0, Turn10, HeadMissing, HeadBad, Turn12, WordsMissing, OperandBad, Executes}
+use Rattle.refusals.proofs.Reasons.{not-both, fails, ring-usable, not-usable, lent-good, ranged}
+use Rattle.refusals.proofs.Reasons.{stops-numbers, run-stops, not-idle, ring-fits}
+
+-- ---- register write
+
+module _ (d : Device) (ring : List ℕ) (index v : ℕ) where
+  abbrev WriteRule : ℕ → Type 0
+  WriteRule a =
+      cond (eqb a 30) (Write30 index)
+      (cond (eqb a 31) (Write31 index)
+      (cond (eqb a 32) (Write32 index v)
+      (cond (eqb a 20) (Write20 d ring index v) (cond (eqb a 33) (Write33 d ring index v) (cond (eqb a 0) (Write0 d ring index v) ⊥)))))
+
+  write-rule : {a : ℕ} → Why d ring index v a → WriteRule a
+  write-rule (no-register e) = e
+  write-rule (read-only r e) = (r, e)
+  write-rule (bad-value w e f) = (w, e, fails _ (ranged w v) .0 f)
+  write-rule (wrong-length e o n) = (e, o, n)
+  write-rule (ring-refused e o n u) = (e, o, n, not-usable ring .0 u)
+  write-rule (is-taken w e t r) = (w, e, ranged w v .0 t, λ c o. let x = r c o in (x .0, ring-usable ring .0 (x .1)))
+
+  pub write-why : wellFormed d ≡ true → (a : ℕ) → written d ring index v .answer ≡ a → WriteRule a
+  write-why m a e = subst WriteRule e (write-rule (why d ring index v m))
+
+-- ---- run
+
+-- 0, 1, 2, or 10 to 13
+abbrev Ended : ℕ → Type 0
+Ended a = (a ≤ 2) ⊎ ((10 ≤ a) × (a ≤ 13))
+
+ended-not : (a n : ℕ) → Ended a → 20 ≤ n → eqb a n ≡ false
+ended-not a n x h = ne-eqb a n (λ e. ⊎-elim (λ l. omega (arith, e)) (λ r. omega (arith, e)) x)
+
+pub ended-taken : (a : ℕ) → Ended a → isRefusal a ≡ false
+unfolding isRefusal
+ended-taken a x = rw (lt-leb 20 a (⊎-elim (λ l. omega arith) (λ r. omega arith) x))
+
+module _ (d : Device) (l : Lent) where
+  pub is-lent : (lentGood d l ≡ true) ↔ RunLent d l
+  is-lent = lent-good d l
+
+  pub not-lent : (lentGood d l ≡ false) ↔ (¬ RunLent d l)
+  not-lent = fails (lentGood d l) is-lent
+
+  -- what a run that starts does
+  abbrev pub started : Ring → ℕ → RingOutcome
+  started g budget = runIn (scene (widthOf d) (heightOf d) (l .framebuffer)) g budget (l .ring) (machineOf d l)
+
+  module _ (m : wellFormed d ≡ true) (g : Ring) (budget : ℕ) (s : Starts d l g) where
+    pub start : runOf d l budget ≡ ran d l (started g budget)
+    unfolding runBy
+    start = run-by d l budget (Running g) m (is-lent .1 (s .0)) (s .1) (s .2) (le-leb _ _ (s .3)) (s .4)
+
+    pub start-fits : fitting g (length (l .ring)) (length (l .cursor)) ≡ true
+    start-fits = ring-fits d m g (s .1) (s .4) l (s .0)
+
+    pub start-ended : Ended (answerNumber (started g budget .answer))
+    start-ended = stops-numbers _ (run-stops _ g budget (l .ring) (machineOf d l) start-fits)
+
+  module _ (budget : ℕ) where
+    -- a run by its refusals, in document 01's order
+    pub by-refusals : (P : RunOutcome → Type 0) → (wellFormed d ≡ false → P (refusedRun d l 22))
+        → (Run20 d l → P (refusedRun d l 20))
+        → (Run22 d l → P (refusedRun d l 22))
+        → (Run21 d l → P (refusedRun d l 21))
+        → (Run24 d l → P (refusedRun d l 24))
+        → (Run23 d l → P (refusedRun d l 23))
+        → (wellFormed d ≡ true → (g : Ring) → Starts d l g → P (ran d l (started g budget)))
+        → P (runOf d l budget)
+    unfolding runOf runBy
+    by-refusals P ill-formed on-20 on-22 on-21 on-24 on-23 starts =
+        by-cond P (wellFormed d)
+        (λ m.
+        by-cond P (lentGood d l)
+        (λ n.
+        by-cond P (configuredOf d)
+        (λ c.
+        by-cond P (enabledOf d)
+        (λ e.
+        by-cond P (modeFits d)
+        (λ f. go m (is-lent .0 n) c e (leb-true _ _ f) (conditionOf d) refl)
+        (λ f. on-24 (is-lent .0 n, c, e, leb-false _ _ f)))
+        (λ e. on-21 (is-lent .0 n, c, e)))
+        (λ c. on-22 (is-lent .0 n, c)))
+        (λ n. on-20 (not-lent .0 n)))
+        ill-formed
+      where
+        go : wellFormed d ≡ true → RunLent d l → configuredOf d ≡ true → enabledOf d ≡ true
+            → widthOf d * heightOf d ≤ pixelsOf d → (c : Condition) → conditionOf d ≡ c → P (runBy d l budget c)
+        go m n c e f Idle q = absurd (not-idle d m c q)
+        go m n c e f (Running g) q = starts m g (n, c, e, f, q)
+        go m n c e f (Faulted k) q = on-23 (n, c, e, f, (k, q))
+
+  abbrev RunRule : ℕ → Type 0
+  RunRule a =
+      cond (eqb a 20) (Run20 d l)
+      (cond (eqb a 22) (Run22 d l)
+      (cond (eqb a 21) (Run21 d l)
+      (cond (eqb a 24) (Run24 d l)
+      (cond (eqb a 23) (Run23 d l) (Ended a)))))
+
+  ended-rule : (a : ℕ) → Ended a → RunRule a
+  ended-rule a x =
+      rw (
+        ended-not a 20 x (omega arith),
+        ended-not a 22 x (omega arith),
+        ended-not a 21 x (omega arith),
+        ended-not a 24 x (omega arith),
+        ended-not a 23 x (omega arith),
+      )
+      x
+
+  pub run-why : wellFormed d ≡ true → (budget a : ℕ) → runOf d l budget .answer ≡ a → RunRule a
+  run-why m budget a e =
+      subst RunRule e
+      (by-refusals budget (λ (o : RunOutcome). RunRule (o .answer)) (not-both (wellFormed d) m) (λ x. x) (λ x. x) (λ x. x) (λ x. x) (λ x. x)
+      (λ n g s. ended-rule _ (start-ended n g budget s)))
+
+-- ---- one turn
+
+module _ {S : Type 0} (knownOf : S → Known) (does : Action → List ℕ → S → S) (cap : ℕ) (s : S) (w : List ℕ) where
+  abbrev turn : Turn S
+  turn = turnOf cap (commands knownOf does) s w
+
+  abbrev TurnRule : Turn S → Type 0
+  TurnRule (ends Drained) = Turn0 w
+  TurnRule (ends Waiting) = HeadMissing w ⊎ WordsMissing cap w
+  TurnRule (ends (Fault NotOffered)) = Turn10 w
+  TurnRule (ends (Fault BadOperand)) = HeadBad w ⊎ OperandBad (knownOf s) cap w
+  TurnRule (ends (Fault TooLong)) = Turn12 cap w
+  TurnRule (ends (Fault BadNext)) = ⊥
+  TurnRule (exec n t) = Executes (knownOf s) cap w
+
+  turn-rule : (¬ Turn0 w) → (t : Turn S) → Ruled knownOf does cap s w t → TurnRule t
+  turn-rule some t (foreign a) = (some, a)
+  turn-rule some t (no-head a b) = inl (some, a, b)
+  turn-rule some t (bad-head a b c) = inl ((some, a, b), c)
+  turn-rule some t (long a b c d) = ((some, a, b), c, d)
+  turn-rule some t (no-rest a b c d e) = inr ((some, a, b), c, d, e)
+  turn-rule some t (bad a b c d e f) = inr (((some, a, b), c, d, e), f)
+  turn-rule some t (well a b c d e f) = (((some, a, b), c, d, e), f)
+
+  there : (¬ Turn0 w) → 1 ≤ length w
+  there some = let n : length w ≢ 0 = some in omega arith
+
+  pub turn-why : (t : Turn S) → turn ≡ t → TurnRule t
+  turn-why t e =
+      subst TurnRule e
+      (cases (eqb (length w) 0)
+      (λ z. let none = eqb-true _ _ z in rw (turn-none cap (commands knownOf does) s w none) none)
+      (λ f. let some = eqb-false _ _ f in turn-rule some turn (ruled knownOf does cap s w (there some))))
+
+  -- and the other way round: the turn, rule by rule
+  by : (¬ Turn0 w) → (t : Turn S) → Ruled knownOf does cap s w t → turn ≡ t
+  by some = by-rule knownOf does cap s w (there some)
+
+  pub finds-0 : Turn0 w → turn ≡ ends Drained
+  finds-0 = turn-none cap (commands knownOf does) s w
+
+  pub finds-10 : Turn10 w → turn ≡ ends (Fault NotOffered)
+  finds-10 (some, a) = by some _ (foreign a)
+
+  pub finds-1 : HeadMissing w ⊎ WordsMissing cap w → turn ≡ ends Waiting
+  finds-1 (inl (some, a, b)) = by some _ (no-head a b)
+  finds-1 (inr ((some, a, b), c, d, e)) = by some _ (no-rest a b c d e)
+
+  pub finds-11 : HeadBad w ⊎ OperandBad (knownOf s) cap w → turn ≡ ends (Fault BadOperand)
+  finds-11 (inl ((some, a, b), c)) = by some _ (bad-head a b c)
+  finds-11 (inr (((some, a, b), c, d, e), f)) = by some _ (bad a b c d e f)
+
+  pub finds-12 : Turn12 cap w → turn ≡ ends (Fault TooLong)
+  finds-12 ((some, a, b), c, d) = by some _ (long a b c d)
+
+  pub finds-command : Executes (knownOf s) cap w
+      → turn ≡ exec (sizeBy (kindIn w) w) (does (entry (kindIn w) .action w) (take (sizeBy (kindIn w) w) w) s)
+  finds-command (((some, a, b), c, d, e), f) = by some _ (well a b c d e f)

@@ -1,0 +1,205 @@
+-- When document 01 refuses a call: for each call and each number its rule, and that no rule that is checked before it holds.
+-- A device is one that calls have made. Lengths are in words; M and P are what the device was made for.
+use mathlib.Core.Path.{_≡_}
+use mathlib.Core.Bool.{Bool, true, false, _&&_}
+use mathlib.Core.List.{List}
+use mathlib.Core.Logic.{_⊎_}
+use Prim.Native.Nat.{ℕ, _*_, _/_, _%_, _≤_, _<_}
+use lib.Dec.{leb}
+use lib.ListN.{length}
+use Rattle.execution.specs.declared.Cause.{Cause}
+use Rattle.execution.specs.Straight.{Turn, Line}
+use Rattle.execution.specs.Table.{turnOf}
+use Rattle.ring.specs.declared.Ring.{Ring}
+use Rattle.ring.specs.Acceptance.{minOf, maxOf, nextOf, stopOf}
+use Rattle.ring.specs.Append.{movedOn}
+use Rattle.ring.specs.Waiting.{waiting, carried}
+use Rattle.ring.proofs.Laws.{Usable}
+use Rattle.register.specs.declared.Register.the-variants.{Writes, Reads, Absent}
+use Rattle.register.specs.declared.ReadOnly.{ReadOnly}
+use Rattle.register.specs.declared.Writable.{Writable}
+use Rattle.register.specs.declared.Writable.the-variants.{Id, Enable, Width, Height, ConfigDone, Sync, GuestId, CursorId, CursorX, CursorY, CursorOn}
+use Rattle.register.specs.Numbers.{registerOf}
+use Rattle.command.specs.Commands.{Known, entry, sizeBy, kindIn}
+use Rattle.effect.specs.Effects.{scene, Machine}
+use Rattle.run.specs.Run.{table}
+use Rattle.device.specs.declared.Condition.the-variants.{Running, Faulted}
+use Rattle.device.specs.declared.Device.{Device}
+use Rattle.device.specs.Device.{memoryOf, pixelsOf, widthOf, heightOf, enabledOf, configuredOf, conditionOf}
+use Rattle.device_run.specs.Run.{Lent, machineOf}
+
+-- "Answers 20 to 34 change nothing"
+unfoldable pub isRefusal : ℕ → Bool
+isRefusal answer = leb 20 answer && leb answer 34
+
+-- ---- making a device: 34
+
+-- "M is a multiple of 4 from 10,256 to 2,097,152; P is 1 to 4,096,000; otherwise answer 34."
+abbrev pub Sizes : ℕ → ℕ → Type 0
+Sizes memory pixels = (memory % 4 ≡ 0) × (10256 ≤ memory) × (memory ≤ 2097152) × (1 ≤ pixels) × (pixels ≤ 4096000)
+
+abbrev pub Make34 : ℕ → ℕ → Type 0
+Make34 memory pixels = ¬ Sizes memory pixels
+
+-- ---- register write: 30, 31, 32; "CONFIG_DONE 1: first 32, then 20, then 33"
+
+-- "1 ENABLE (0 or 1), 2 WIDTH (1 to 2,560), 3 HEIGHT (1 to 1,600), 20 CONFIG_DONE (0 or 1), .., 27 CURSOR_ON (0 to 3). A value outside these is 32;
+-- registers with no range take all."
+abbrev pub Ranged : Writable → ℕ → Type 0
+Ranged Id v = Unit {0}
+Ranged Enable v = v ≤ 1
+Ranged Width v = (1 ≤ v) × (v ≤ 2560)
+Ranged Height v = (1 ≤ v) × (v ≤ 1600)
+Ranged ConfigDone v = v ≤ 1
+Ranged Sync v = Unit {0}
+Ranged GuestId v = Unit {0}
+Ranged CursorId v = Unit {0}
+Ranged CursorX v = Unit {0}
+Ranged CursorY v = Unit {0}
+Ranged CursorOn v = v ≤ 3
+
+-- "no such register"
+abbrev pub Write30 : ℕ → Type 0
+Write30 index = registerOf index ≡ Absent
+
+-- "read-only"
+abbrev pub Write31 : ℕ → Type 0
+Write31 index = (r : ReadOnly) × (registerOf index ≡ Reads r)
+
+-- "bad value"
+abbrev pub Write32 : ℕ → ℕ → Type 0
+Write32 index v = (w : Writable) × (registerOf index ≡ Writes w) × (¬ Ranged w v)
+
+-- "lent length": the ring memory's, asked for by CONFIG_DONE 1 alone
+abbrev pub Write20 : Device → List ℕ → ℕ → ℕ → Type 0
+Write20 d ring index v = (registerOf index ≡ Writes ConfigDone) × (v ≡ 1) × (¬ (length ring ≡ memoryOf d / 4))
+
+-- "ring refused": ring words 0 to 3 are not as CONFIG_DONE asks
+abbrev pub Write33 : Device → List ℕ → ℕ → ℕ → Type 0
+Write33 d ring index v = (registerOf index ≡ Writes ConfigDone) × (v ≡ 1) × (length ring ≡ memoryOf d / 4) × (¬ Usable ring)
+
+-- none of these: "taken"
+abbrev pub Write0 : Device → List ℕ → ℕ → ℕ → Type 0
+Write0 d ring index v =
+    (w : Writable)
+    × (registerOf index ≡ Writes w)
+    × Ranged w v
+    × (w ≡ ConfigDone → v ≡ 1 → (length ring ≡ memoryOf d / 4) × Usable ring)
+
+-- ---- register read: 30
+
+-- "Reading an absent register gives 30 and value 0."
+abbrev pub Read30 : ℕ → Type 0
+Read30 index = registerOf index ≡ Absent
+
+-- ---- run: "A run checks 20, 22, 21, 24, 23 in that order"
+
+module _ (d : Device) (l : Lent) where
+  -- "the ring memory (M/4 words), the framebuffer (P), the screen (P), the cursor image (4,096)"
+  abbrev pub RunLent : Type 0
+  RunLent =
+      (length (l .ring) ≡ memoryOf d / 4)
+      × (length (l .framebuffer) ≡ pixelsOf d)
+      × (length (l .screen) ≡ pixelsOf d)
+      × (length (l .cursor) ≡ 4096)
+
+  -- "A lent length that differs is answer 20."
+  abbrev pub Run20 : Type 0
+  Run20 = ¬ RunLent
+
+  -- "not configured"
+  abbrev pub Run22 : Type 0
+  Run22 = RunLent × (configuredOf d ≡ false)
+
+  -- "disabled"
+  abbrev pub Run21 : Type 0
+  Run21 = RunLent × (configuredOf d ≡ true) × (enabledOf d ≡ false)
+
+  -- "width·height above P"
+  abbrev pub Run24 : Type 0
+  Run24 = RunLent × (configuredOf d ≡ true) × (enabledOf d ≡ true) × (pixelsOf d < widthOf d * heightOf d)
+
+  -- "fault already standing"
+  abbrev pub Run23 : Type 0
+  Run23 =
+      RunLent × (configuredOf d ≡ true) × (enabledOf d ≡ true) × (widthOf d * heightOf d ≤ pixelsOf d) × ((c : Cause) × (conditionOf d ≡ Faulted c))
+
+  -- none of these: the run starts, on the ring g that was remembered
+  abbrev pub Starts : Ring → Type 0
+  Starts g = RunLent × (configuredOf d ≡ true) × (enabledOf d ≡ true) × (widthOf d * heightOf d ≤ pixelsOf d) × (conditionOf d ≡ Running g)
+
+-- ---- a run that starts
+
+-- "NEXT_CMD not a multiple of 4 or outside the ring: 13." MIN and MAX are remembered in words, NEXT_CMD is in bytes.
+abbrev pub NextUsable : Ring → ℕ → Type 0
+NextUsable g next = (next % 4 ≡ 0) × (4 * g .min ≤ next) × (next < 4 * g .max)
+
+-- the words that wait from STOP up to a usable NEXT_CMD, with the machine that they work on
+abbrev pub lineOf : Device → Lent → Ring → Line Machine
+lineOf d l g =
+    record { words = waiting (l .ring) (g .min) (g .max) (g .stop) (nextOf (l .ring) / 4); machine = machineOf d l }
+
+-- what a turn finds in the words that wait
+abbrev pub turnFor : Device → Lent → Ring → Machine → List ℕ → Turn Machine
+turnFor d l g = turnOf (carried (g .min) (g .max)) (table (scene (widthOf d) (heightOf d) (l .framebuffer)))
+
+-- ---- one turn, "in this order", on the words w that wait in a ring that carries cap words: by their row of document 01's table, `entry (kindIn w)`
+
+-- "NEXT_CMD = STOP: 0."
+abbrev pub Turn0 : List ℕ → Type 0
+Turn0 w = length w ≡ 0
+
+-- "Number not offered: 10."
+abbrev pub Turn10 : List ℕ → Type 0
+Turn10 w = (¬ Turn0 w) × (entry (kindIn w) .offered ≡ false)
+
+-- "Head incomplete: 1."
+abbrev pub HeadMissing : List ℕ → Type 0
+HeadMissing w = (¬ Turn0 w) × (entry (kindIn w) .offered ≡ true) × (length w < entry (kindIn w) .head)
+
+abbrev pub HeadThere : List ℕ → Type 0
+HeadThere w = (¬ Turn0 w) × (entry (kindIn w) .offered ≡ true) × (entry (kindIn w) .head ≤ length w)
+
+-- "Cursor head bad: 11."
+abbrev pub HeadBad : List ℕ → Type 0
+HeadBad w = HeadThere w × (entry (kindIn w) .headGood w ≡ false)
+
+-- "Length above what the ring carries: 12."
+abbrev pub Turn12 : ℕ → List ℕ → Type 0
+Turn12 cap w = HeadThere w × (entry (kindIn w) .headGood w ≡ true) × (cap < sizeBy (kindIn w) w)
+
+-- "Words missing: 1."
+abbrev pub WordsMissing : ℕ → List ℕ → Type 0
+WordsMissing cap w =
+    HeadThere w × (entry (kindIn w) .headGood w ≡ true) × (sizeBy (kindIn w) w ≤ cap) × (length w < sizeBy (kindIn w) w)
+
+abbrev pub WordsThere : ℕ → List ℕ → Type 0
+WordsThere cap w =
+    HeadThere w × (entry (kindIn w) .headGood w ≡ true) × (sizeBy (kindIn w) w ≤ cap) × (sizeBy (kindIn w) w ≤ length w)
+
+-- "Raster operation above 15: 11." `known` is what the checks see of the machine.
+abbrev pub OperandBad : Known → ℕ → List ℕ → Type 0
+OperandBad known cap w = WordsThere cap w × (entry (kindIn w) .good known w ≡ false)
+
+-- "Then it is executed"
+abbrev pub Executes : Known → ℕ → List ℕ → Type 0
+Executes known cap w = WordsThere cap w × (entry (kindIn w) .good known w ≡ true)
+
+-- ---- picture: "a picture 20, 24"
+
+-- "the screen (P), the cursor image (4,096), and for a finished picture an output (P)"
+abbrev pub PictureLent : Device → List ℕ → List ℕ → List ℕ → Type 0
+PictureLent d screen image output = (length screen ≡ pixelsOf d) × (length image ≡ 4096) × (length output ≡ pixelsOf d)
+
+abbrev pub Picture20 : Device → List ℕ → List ℕ → List ℕ → Type 0
+Picture20 d screen image output = ¬ PictureLent d screen image output
+
+abbrev pub Picture24 : Device → List ℕ → List ℕ → List ℕ → Type 0
+Picture24 d screen image output = PictureLent d screen image output × (pixelsOf d < widthOf d * heightOf d)
+
+-- ---- append: 1
+
+-- "An append .. moves NEXT_CMD on by 4, MAX becoming MIN; if that would make it equal ring word 3, it is refused". So is one where ring words 0 to 3 are
+-- not as CONFIG_DONE asks.
+abbrev pub Append1 : List ℕ → Type 0
+Append1 ring = (¬ Usable ring) ⊎ (movedOn (minOf ring) (maxOf ring) (nextOf ring) ≡ stopOf ring)
