@@ -13,7 +13,9 @@ ghost use mathlib.Core.Path.{_≡_};
 ghost use mathlib.Core.Bool.{_&&_};
 ghost use lib.Dec.{leb};
 ghost use Rattle.register_write.specs.Answers.{writeNumber, writeOutcome};
-ghost use Rattle.register_write.specs.Registers.{inRange, idWritten, enableWritten, widthWritten, heightWritten, idled, unconfigured, running, synced, guestIdWritten, cursorIdWritten, cursorXWritten, cursorYWritten, planeOn, cursorOnWritten, effectOf, ringAsked, acceptedWritten, ringWritten, writableWritten, written};
+ghost use Rattle.register_write.specs.Registers.{inRange, idWritten, enableWritten, widthWritten, heightWritten, idled, unconfigured, running, synced};
+ghost use Rattle.register_write.specs.Registers.{guestIdWritten, cursorIdWritten, cursorXWritten, cursorYWritten, planeOn, cursorOnWritten};
+ghost use Rattle.register_write.specs.Registers.{effectOf, ringAsked, acceptedWritten, ringWritten, writableWritten, written};
 
 pub enum WriteAnswer {
     Taken,
