@@ -53,24 +53,25 @@ fn reduce_row(row: &mut [u32], keep: u32, flip: u32)
     }
 }
 
-// A row of fewer than 32 pixels, four at a time behind the first ones: stores that begin at a multiple of four pixels cross no cache line where the
-// screen's memory begins at one.
+// A row of fewer than 32 pixels, four at a time: the first four, those from pixel first on, and the last four. Stores that begin at a multiple of four
+// pixels cross no cache line where the screen's memory begins at one; the first and the last overlap them.
 fn store_short(row: &mut [u32], first: usize, colour: u32)
+    requires { ⌜ first < 4 ⌝ }
     ensures { λ _. ⌜ now (row .exit) ≡ tabulate (length (now (row .entry))) (λ i. colour) ⌝ }
 {
     let n = row.len();
-    if n <= first {
+    if n < 4 {
         store_row(row, colour);
         return;
     }
-    store_row(&mut row[0..first], colour);
+    store_row(&mut row[0..4], colour);
     let mut i = first;
     while 4 <= n - i {
         let past = i + 4;
         store_row(&mut row[i..past], colour);
         i += 4;
     }
-    store_row(&mut row[i..n], colour);
+    store_row(&mut row[n - 4..n], colour);
 }
 
 // A row of any length that begins at a place of the screen.
