@@ -21,6 +21,7 @@ use Rattle.cursor.specs.declared.Defined.{Defined}
 use Rattle.command.specs.declared.Action.{Action}
 use Rattle.command.specs.declared.Action.the-variants as A
 use Rattle.command.specs.declared.Data.{Data}
+use Rattle.command.specs.declared.Step.{Step}
 use Rattle.command.specs.declared.Step.the-variants.{Does}
 use Rattle.command.specs.declared.Step.the-variants as Step
 use Rattle.command.specs.Findings.{stepIn}
@@ -30,7 +31,7 @@ use Rattle.effect.specs.Effects.{Scene, Machine, screenAfter, fenceAfter, defin
 use Rattle.run.specs.declared.Pause.the-variants.{Spent, Short, Faults, Long}
 use Rattle.run.specs.Run.{knownOf, machine, table, stamped}
 use Rattle.run.specs.Turns.{rowIn}
-use Rattle.run.specs.Going.{plus, line, marked, Pauses, RowGoing}
+use Rattle.run.specs.Going.{plus, line, marked, pauseOf, Pauses, RowGoing}
 use Rattle.run.proofs.Counts.{plus-zero, plus-one, stamped-further}
 
 -- ---- rows
@@ -162,6 +163,13 @@ module _ {s : Scene} {budget : ℕ} {memory₀ : List ℕ} {a e : ℕ} {fence₀
 
 -- ---- why it paused
 
+-- a step other than a command that is executed
+abbrev pub NotDone : Step → Type 0
+NotDone (Step.Does a n) = ⊥
+NotDone Step.Short = Unit {0}
+NotDone (Step.Faults c) = Unit {0}
+NotDone (Step.Long d) = Unit {0}
+
 module _ (left : ℕ) (row : List ℕ) where
   pub pauses-spent : left ≡ 0 → Pauses Spent left row
   pauses-spent z = record {
@@ -171,24 +179,22 @@ module _ (left : ℕ) (row : List ℕ) where
     long = λ d e. absurd (true≢false cc);
   }
 
-  pub pauses-short : 1 ≤ left → stepIn tt row ≡ Step.Short → Pauses Short left row
-  pauses-short h q = record {
+  -- at a step that is not executed
+  pub pauses-at : (step : Step) → NotDone step → 1 ≤ left → stepIn tt row ≡ step → Pauses (pauseOf step) left row
+  pauses-at (Step.Does a n) other h q = absurd other
+  pauses-at Step.Short other h q = record {
     spent = λ e. absurd (true≢false cc);
     short = λ e. (h, q);
     faults = λ c e. absurd (true≢false cc);
     long = λ d e. absurd (true≢false cc);
   }
-
-  pub pauses-faults : (f : Cause) → 1 ≤ left → stepIn tt row ≡ Step.Faults f → Pauses (Faults f) left row
-  pauses-faults f h q = record {
+  pauses-at (Step.Faults f) other h q = record {
     spent = λ e. absurd (true≢false cc);
     short = λ e. absurd (true≢false cc);
     faults = λ c e. let same : f ≡ c = cc in (h, q ∙ ap Step.Faults same);
     long = λ d e. absurd (true≢false cc);
   }
-
-  pub pauses-long : (f : Data) → 1 ≤ left → stepIn tt row ≡ Step.Long f → Pauses (Long f) left row
-  pauses-long f h q = record {
+  pauses-at (Step.Long f) other h q = record {
     spent = λ e. absurd (true≢false cc);
     short = λ e. absurd (true≢false cc);
     faults = λ c e. absurd (true≢false cc);

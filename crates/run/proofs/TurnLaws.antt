@@ -18,6 +18,7 @@ use Rattle.execution.specs.Claim as Claim
 use Rattle.execution.specs.Queue.{LineRun, runs}
 use Rattle.execution.proofs.QueueLaws.{runs-ends, runs-exec}
 use Rattle.execution.specs.Table.{turnOf}
+use Rattle.ring.specs.Acceptance.{maxWords}
 use Rattle.ring.specs.Waiting.{ahead, carried}
 use Rattle.ring.proofs.WaitingLaws.{ahead-in, length-words}
 use Rattle.cursor.specs.declared.Defined.{Defined}
@@ -52,20 +53,15 @@ pub stops : (s : Scene) (v : View) (ring : List ℕ) (m : Machine) (e : End) →
 stops s v ring m e q = sym (turned-by s v ring m (ends e) q)
 
 -- a command was executed, STOP passed it, and ring word 3 says so
-pub executed : (s : Scene) (v : View) (ring : List ℕ) (m : Machine) (n : ℕ) (u : Machine) (to : View) (later : List ℕ)
-    → turn s v m (wordsIn ring v) ≡ exec n u → to ≡ passedIn v n → later ≡ stamped (to .at) ring
-    → record { stop = none; view = to; ring = later; machine = u } ≡ turned s v ring m
-executed s v ring m n u to later q p r =
-    rw (r, p) (sym (turned-by s v ring m (exec n u) q))
+pub goes-on : (s : Scene) (v : View) (ring : List ℕ) (m : Machine) (n : ℕ) (u : Machine) → turn s v m (wordsIn ring v) ≡ exec n u
+    → record { stop = none; view = passedIn v n; ring = stamped (passedIn v n .at) ring; machine = u } ≡ turned s v ring m
+goes-on s v ring m n u q = sym (turned-by s v ring m (exec n u) q)
 
 -- where STOP stands behind n words of a view
-pub stamp-fits : {v : View} {ring cursor : List ℕ} → Stands v ring cursor → (n : ℕ) → n ≤ v .n → (to : View) → to ≡ passedIn v n
-    → (4 ≤ length ring) × (to .at ≤ 524288)
-stamp-fits {v} h n few to e =
-    let i = h .inside in
+pub stop-fits : {v : View} {m : ℕ} → InView v m → v .hi ≤ maxWords → (n : ℕ) → n ≤ v .n → passedIn v n .at ≤ maxWords
+stop-fits {v} i small n few =
     let p = ahead-in (v .lo) (v .hi) (v .at) n (record { from = i .from; below = i .below; held = omega (arith, i .held) }) in
-    let f : to .at ≡ ahead (v .lo) (v .hi) (v .at) n = ap (λ (x : View). x .at) e in
-    (omega (arith, h .low, i .fits, i .below, i .from), omega (arith, f, p .1, h .small))
+    omega (arith, p .1)
 
 -- ---- commands with data
 

@@ -15,6 +15,7 @@ use Rattle.execution.specs.Queue.{LineRun, runs}
 use Rattle.ring.specs.Waiting.{carried}
 use Rattle.cursor.specs.declared.Defined.{Defined}
 use Rattle.command.specs.declared.Data.{Data}
+use Rattle.command.specs.declared.Step.{Step}
 use Rattle.command.specs.declared.Step.the-variants as Step
 use Rattle.command.specs.Findings.{stepIn}
 use Rattle.effect.specs.declared.Marks.{Marks}
@@ -55,6 +56,13 @@ module _ (s : Scene) (budget : ℕ) (v₀ : View) (ring₀ : List ℕ) (m₀ : M
     pub rest : runs (turn s v₀) budget (line (wordsIn ring₀ v₀) m₀) ≡ plus (budget - left) (runs (turn s v₀) left (line (drop gone (wordsIn ring₀ v₀)) m))
 
 -- ---- commands in a row of words
+
+-- Why commands in a row come to an end at a step. A command that is executed is none of these.
+abbrev pub pauseOf : Step → Pause
+pauseOf (Step.Does a n) = Spent
+pauseOf Step.Short = Short
+pauseOf (Step.Faults c) = Faults c
+pauseOf (Step.Long d) = Long d
 
 -- Why commands in a row came to an end there, with so much of the budget left.
 pub record Pauses (why : Pause) (left : ℕ) (row : List ℕ) : Type 0 where

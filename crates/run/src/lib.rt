@@ -21,9 +21,9 @@ ghost use Rattle.ring.specs.Waiting.{between, words, carried};
 ghost use Rattle.command.specs.Commands.{kindIn};
 ghost use Rattle.command.specs.Findings.{kindWith};
 ghost use Rattle.effect.specs.Effects.{scene, cursorAfter};
-ghost use Rattle.run.specs.declared.Stop.the-variants.{Stops};
+ghost use Rattle.run.specs.declared.Stop.the-variants.{Goes, Stops};
 ghost use Rattle.run.specs.Turns.{InView, Stands, wordsIn, passedIn, viewOf, Ready, rowEnd, LineOf};
-ghost use Rattle.run.specs.Going.{RowRun, after, turned, DataTurned};
+ghost use Rattle.run.specs.Going.{RowRun, pauseOf, after, turned, DataTurned};
 ghost use Rattle.run.specs.Run.{ranTo, machine, table, placeOf, stamped, ringOutcome, runWords, fitting, nextUnusable, answerOf, runIn};
 
 // The words that wait in a ring from word lo to below word hi: n of them, from word at on.
@@ -205,6 +205,18 @@ struct Paused {
     why: Pause,
 }
 
+// Why they ended at a step, which is not a command of fixed length that lies whole in the row.
+fn pause_of(step: Step) -> Pause
+    ensures { λ r. ⌜ r ≡ pauseOf step ⌝ }
+{
+    match step {
+        Step::Does(_, _) => Pause::Spent,
+        Step::Short => Pause::Short,
+        Step::Faults(cause) => Pause::Faults(cause),
+        Step::Long(tail) => Pause::Long(tail),
+    }
+}
+
 // Commands that lie whole in a row of words, from word from up to word end, one after the other. Nothing but what they need stays in this loop.
 fn row_turns(
     from: usize,
@@ -226,39 +238,20 @@ fn row_turns(
     let mut left = budget;
     while 0 < left {
         let step = command::step_in(&memory[at..end]);
-        match step {
-            Step::Does(action, size) => {
-                effect::draw(action, framebuffer, screen, width, rows);
-                fence = effect::fence_after(action, fence);
-                at += size;
-                stamp(memory, at);
-                left -= 1;
-            }
-            Step::Short => {
-                return Paused {
-                    at,
-                    fence,
-                    left,
-                    why: Pause::Short,
-                };
-            }
-            Step::Faults(cause) => {
-                return Paused {
-                    at,
-                    fence,
-                    left,
-                    why: Pause::Faults(cause),
-                };
-            }
-            Step::Long(tail) => {
-                return Paused {
-                    at,
-                    fence,
-                    left,
-                    why: Pause::Long(tail),
-                };
-            }
-        }
+        let Step::Does(action, size) = step else {
+            let why = pause_of(step);
+            return Paused {
+                at,
+                fence,
+                left,
+                why,
+            };
+        };
+        effect::draw(action, framebuffer, screen, width, rows);
+        fence = effect::fence_after(action, fence);
+        at += size;
+        stamp(memory, at);
+        left -= 1;
     }
     Paused {
         at,
@@ -307,6 +300,22 @@ fn stopped(v: View, marks: Marks, end: End) -> Turned
     }
 }
 
+// A command of size words was executed: it is passed, and ring word 3 says so.
+fn executed(v: View, size: usize, marks: Marks, ring: &mut [u32]) -> Turned
+    requires { ⌜ InView v (length (now ring)) ⌝ }
+    requires { ⌜ (size ≤ v .n) × (v .hi ≤ maxWords) × (4 ≤ length (now ring)) ⌝ }
+    ensures { λ r. ⌜ r ≡ record { stop = Goes; view = passedIn v size; marks = marks } ⌝ }
+    ensures { λ _. ⌜ now (ring .exit) ≡ stamped (passedIn v size .at) (now (ring .entry)) ⌝ }
+{
+    let to = pass(v, size);
+    stamp(ring, to.at);
+    Turned {
+        stop: Stop::Goes,
+        view: to,
+        marks,
+    }
+}
+
 // A turn on a command with data behind its head, of which the first ten words are lent in a row.
 fn data_turn(
     v: View,
@@ -331,14 +340,7 @@ fn data_turn(
         }
         Finding::Executes(action, size) => {
             bring_cursor(action, ring, v, cursor);
-            let to = pass(v, size as usize);
-            let at = to.at;
-            stamp(ring, at);
-            return Turned {
-                stop: Stop::Goes,
-                view: to,
-                marks: effect::mark(marks, action),
-            };
+            return executed(v, size as usize, effect::mark(marks, action), ring);
         }
     }
 }
@@ -395,28 +397,18 @@ fn one_turn(
     );
     let why = p.why;
     match why {
-        Pause::Spent => {
-            let to = pass(v, p.at - 4);
-            let at = to.at;
-            stamp(ring, at);
-            return Turned {
-                stop: Stop::Goes,
-                view: to,
-                marks: Marks {
-                    fence: p.fence,
-                    ..marks
-                },
-            };
-        }
-        Pause::Short => {
-            return stopped(v, marks, End::Waiting);
-        }
-        Pause::Faults(cause) => {
-            return stopped(v, marks, End::Fault(cause));
-        }
-        Pause::Long(tail) => {
-            return data_turn(v, marks, tail, &line[4..end], ring, cursor);
-        }
+        Pause::Spent => return executed(
+            v,
+            p.at - 4,
+            Marks {
+                fence: p.fence,
+                ..marks
+            },
+            ring,
+        ),
+        Pause::Short => return stopped(v, marks, End::Waiting),
+        Pause::Faults(cause) => return stopped(v, marks, End::Fault(cause)),
+        Pause::Long(tail) => return data_turn(v, marks, tail, &line[4..end], ring, cursor),
     }
 }
 

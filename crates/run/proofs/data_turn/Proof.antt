@@ -12,7 +12,7 @@ use Rattle.command.specs.Findings.{findsIn, asTurn, begun}
 use Rattle.run.specs.Run.{machine}
 use Rattle.run.specs.Turns.{wordsIn}
 use Rattle.run.proofs.Found.{Found}
-use Rattle.run.proofs.TurnLaws.{stamp-fits, stops, executed, data-ends, data-executes, data-found, data-done}
+use Rattle.run.proofs.TurnLaws.{stops, goes-on, data-ends, data-executes, data-found, data-done}
 use Rattle.run.proofs.data_turn.Statement.{statement}
 use Rattle.run.proofs.data_turn.Tie as tie
 
@@ -36,8 +36,12 @@ module _ (c : tie.After-finding2) where
   fits : c .finding2 .given .0 .1 .0 ≤ entry .args .v .n
   fits = let a = entry .args in omega (arith, shown .there, length-words (a .ring .now) (a .v .lo) (a .v .hi) (a .v .at) (a .v .n))
 
-abbrev found-2 : tie.After-pass → tie.After-finding2
-found-2 c = c .before .before .before .before .before .before .before
+-- the cursor's pixels came, and the command was executed
+abbrev brought : tie.After-mark → tie.After-bring-cursor
+brought c = c .before .before .before
+
+abbrev found-2 : tie.After-bring-cursor → tie.After-finding2
+found-2 c = c .before .before .before .before
 
 returns : tie.Need-returns
 returns c s screen =
@@ -50,18 +54,21 @@ returns c s screen =
 
 returns-2 : tie.Need-returns-2
 returns-2 c s screen =
-    let p = c .before .before .before .before .before in
-    let f = found-2 p in
+    let e = c .before .before in
+    let marked = e .before .before in
+    let b = brought marked in
+    let f = found-2 b in
     let d = found-at f in
     let a = start d .args in
+    let p = start d .pre .1 in
     let act = f .finding2 .given .0 .0 in
     let n = f .finding2 .given .0 .1 .0 in
     let m = machine (a .marks) screen (a .cursor .now) in
     let cap = carried (a .v .lo) (a .v .hi) in
-    let done = data-done (a .v) (a .ring .now) cap (a .tail) (a .head .now) (start d .pre .1 .0) (start d .pre .1 .1) (start d .pre .1 .2) act n (said f) s m _ _ (c .mark .ensures) (p .before .before .before .bring-cursor .ensures) in
-    executed s (a .v) (a .ring .now) m n _ _ _
-    (data-executes (a .v) (a .ring .now) cap (a .tail) (a .head .now) (start d .pre .1 .0) (start d .pre .1 .1) (start d .pre .1 .2) _ (d .data-turn .ensures) s m act n (f .finding2 .given .1) ∙ ap (exec n) done)
-    (p .pass .ensures) (c .before .before .before .stamp .ensures)
+    let done = data-done (a .v) (a .ring .now) cap (a .tail) (a .head .now) (p .0) (p .1) (p .2) act n (said f) s m _ _ (marked .mark .ensures) (b .bring-cursor .ensures) in
+    rw (e .executed .ensures .0, e .executed .ensures .1)
+    (goes-on s (a .v) (a .ring .now) m n _
+    (data-executes (a .v) (a .ring .now) cap (a .tail) (a .head .now) (p .0) (p .1) (p .2) _ (d .data-turn .ensures) s m act n (f .finding2 .given .1) ∙ ap (exec n) done))
 
 pub data-turn-spec : {M : Type 1} → statement M
 data-turn-spec =
@@ -75,9 +82,8 @@ data-turn-spec =
     returns
     (λ c. search needs)
     (λ c κs. let f = c .before .before .before in let a = entry f .args in let s = entry f .pre .0 in (s .inside, (rw (length-words (a .ring .now) (a .v .lo) (a .v .hi) (a .v .at) (a .v .n)) at (shown f .ready), s .image)))
-    (λ c κs. let f = c .before .before .before .before .before .before in let i = entry f .pre .0 .inside in (i .from, i .below, fits f, i .held, entry f .pre .0 .small))
-    (λ c κs. let f = found-2 (c .before) in stamp-fits (entry f .pre .0) _ (fits f) _ (c .before .pass .ensures))
     (λ c κs. search needs)
+    (λ c κs. let f = found-2 (brought (c .before)) in let s = entry f .pre .0 in (s .inside, (fits f, s .small, omega (arith, s .low, s .inside .fits, s .inside .below, s .inside .from))))
     (λ c. search needs)
     (λ c. search needs)
     returns-2)

@@ -1,17 +1,22 @@
 -- `run::row_turns` meets its contract. The invariant: whatever follows the row, the run still to do from here is the whole run.
 -- Assumes nothing.
 use mathlib.Core.Path.{_≡_, refl, sym, _∙_}
-use Prim.Native.Nat.{_+_, _≤_, _<_}
+use mathlib.Core.Logic.{⊎-elim}
+use mathlib.Core.List.{List, [], _∷_}
+use Prim.Native.Nat.{ℕ, _+_, _≤_, _<_}
 use native.Mathlib.Omega.{arith}
 use borrow.Author.Needs.{needs}
+use denote.Enum.Declared.{tagOf}
+use types.Run.{OneOf}
 use lib.ListN.{length}
 use Rattle.command.specs.declared.Step.{Step}
-use Rattle.command.specs.declared.Step.the-variants.{Does}
+use Rattle.command.specs.declared.Step.the-variants.{Does, Short, Faults, Long}
+use Rattle.command.proofs.Step as S
 use Rattle.command.specs.Findings.{stepIn}
 use Rattle.effect.specs.Effects.{scene}
 use Rattle.run.specs.Turns.{rowIn}
 use Rattle.run.specs.Going.{RowGoing}
-use Rattle.run.proofs.Rows.{row-start, same-row, row-same-length, row-fits, row-more, pauses-spent, pauses-short, pauses-faults, pauses-long}
+use Rattle.run.proofs.Rows.{row-start, same-row, row-same-length, row-fits, row-more, NotDone, pauses-spent, pauses-at}
 use Rattle.run.proofs.row_turns.Statement.{statement}
 use Rattle.run.proofs.row_turns.Tie as tie
 
@@ -43,31 +48,35 @@ module _ (c : tie.At-loop Inv-loop μ-loop) where
   lengths : length (c .loop .memory) ≡ length (Start c .args .memory .now)
   lengths = row-same-length low there (c .loop .inv .0)
 
-found : (c : tie.After-step-in Inv-loop μ-loop) (step : Step) → c .step-in .result ≡ step
-    → stepIn tt (rowIn (at-loop c .loop .memory) (at-loop c .loop .at) (Start (at-loop c) .args .end)) ≡ step
-found c step e = sym (c .step-in .ensures) ∙ e
-
 -- what the places in a row ask for
 bounds : (c : tie.At-loop Inv-loop μ-loop)
     → (4 ≤ c .loop .at) × (c .loop .at ≤ Start c .args .end) × (Start c .args .end ≤ length (c .loop .memory)) × (Start c .args .end ≤ 524288)
 bounds c = let g = c .loop .inv .0 in let l = lengths c in let p = Start c .pre in (omega (arith, g .from, p .0), g .within, omega (arith, l, p .2), p .3)
+
+-- the front of the row was looked at
+module _ (c : tie.After-step-in Inv-loop μ-loop) where
+  abbrev row : List ℕ
+  row = rowIn (at-loop c .loop .memory) (at-loop c .loop .at) (Start (at-loop c) .args .end)
+
+  abbrev entered : 0 < at-loop c .loop .left
+  entered = c .before .before .before .loop-test .taken
 
 -- a command that is executed
 module _ (c : tie.After-step Inv-loop μ-loop) where
   abbrev turn : tie.After-step-in Inv-loop μ-loop
   turn = c .before .before
 
-  abbrev entered : 0 < at-loop turn .loop .left
-  entered = turn .before .before .before .loop-test .taken
-
-  abbrev does : stepIn tt (rowIn (at-loop turn .loop .memory) (at-loop turn .loop .at) (Start (at-loop turn) .args .end)) ≡ Does (c .step .given .0 .0) (c .step .given .0 .1 .0)
-  does = found turn _ (c .step .given .1)
+  abbrev does : stepIn tt (row turn) ≡ Does (c .step .given .0 .0) (c .step .given .0 .1 .0)
+  does = sym (turn .step-in .ensures) ∙ c .step .given .1
 
   fits : (1 ≤ c .step .given .0 .1 .0) × (at-loop turn .loop .at + c .step .given .0 .1 .0 ≤ Start (at-loop turn) .args .end)
   fits = row-fits (low (at-loop turn)) (there (at-loop turn)) (at-loop turn .loop .inv .0) _ _ does
 
+abbrev drawn : tie.After-fence-after Inv-loop μ-loop → tie.After-draw Inv-loop μ-loop
+drawn c = c .before .before .before
+
 abbrev done : tie.After-fence-after Inv-loop μ-loop → tie.After-step Inv-loop μ-loop
-done c = c .before .before .before .before .before .before
+done c = drawn c .before .before .before
 
 abbrev stamped-at : tie.After-slice-known4 Inv-loop μ-loop → tie.After-fence-after Inv-loop μ-loop
 stamped-at c = c .before .before .before .before
@@ -76,10 +85,24 @@ loop-again : tie.Need-loop-again Inv-loop μ-loop
 loop-again c =
     let fence = stamped-at c in
     let step = done fence in
-    let at = at-loop (turn step) in (
-      row-more (low at) (there at) (at .loop .inv .0) _ _ (does step) (entered step) _ (c .before .before .stamp .ensures) _ (fence .before .before .before .draw .ensures) _ (fence .fence-after .ensures),
-      fence .before .before .before .draw .kept .1 .1 .0 ∙ at .loop .inv .1,
+    let at = at-loop (turn step) in
+    let draw = drawn fence .draw in (
+      row-more (low at) (there at) (at .loop .inv .0) _ _ (does step) (entered (turn step)) _ (c .before .before .stamp .ensures) _ (draw .ensures) _ (fence .fence-after .ensures),
+      draw .kept .1 .1 .0 ∙ at .loop .inv .1,
     )
+
+-- a step that is not executed
+not-done : (step : Step) → OneOf (1 ∷ 2 ∷ 3 ∷ []) (tagOf S.the-type step) → NotDone step
+not-done (Does a n) o = ⊎-elim (λ e. omega arith) (⊎-elim (λ e. omega arith) (λ e. omega arith)) o
+not-done Short o = tt
+not-done (Faults c) o = tt
+not-done (Long d) o = tt
+
+returns : tie.Need-returns Inv-loop μ-loop
+returns c =
+    let turn = c .before .before in
+    let at = at-loop turn in
+    (at .loop .inv .0, rw (c .pause-of .ensures) (pauses-at _ _ (turn .step-in .result) (not-done (turn .step-in .result) (c .before .match .keys2)) (entered turn) (rw (← same at) (sym (turn .step-in .ensures)))))
 
 pub row-turns-spec : {M : Type 1} → statement M
 row-turns-spec =
@@ -95,24 +118,16 @@ row-turns-spec =
     (λ c κs. search needs)
     (λ c. search needs)
     (λ c κs. search needs)
+    (λ c. lengths (at-loop (c .before .before)))
+    (λ c. at-loop (c .before .before) .loop .inv .1)
+    returns
+    (λ c κs. search needs)
     (λ c κs. search needs)
     (λ c. let step = done c in let b = bounds (at-loop (turn step)) in let f = fits step in omega arith)
     (λ c κs. let step = done (c .before) in let b = bounds (at-loop (turn step)) in let f = fits step in (omega arith, omega arith))
-    (λ c. omega (arith, entered (done (stamped-at c))))
-    (λ c. omega (arith, entered (done (stamped-at c))))
+    (λ c. omega (arith, entered (turn (done (stamped-at c)))))
+    (λ c. omega (arith, entered (turn (done (stamped-at c)))))
     loop-again
-    (λ c. search needs)
-    (λ c. lengths (at-loop (c .before .before)))
-    (λ c. at-loop (c .before .before) .loop .inv .1)
-    (λ c. (at-loop (c .before .before) .loop .inv .0, pauses-short _ _ (c .before .before .before .before .before .loop-test .taken) (rw (← same (at-loop (c .before .before))) (found (c .before .before) _ (c .enum-told .given .1)))))
-    (λ c. search needs)
-    (λ c. lengths (at-loop (c .before .before .before)))
-    (λ c. at-loop (c .before .before .before) .loop .inv .1)
-    (λ c. (at-loop (c .before .before .before) .loop .inv .0, pauses-faults _ _ _ (c .before .before .before .before .before .before .loop-test .taken) (rw (← same (at-loop (c .before .before .before))) (found (c .before .before .before) _ (c .before .step2 .given .1)))))
-    (λ c. search needs)
-    (λ c. lengths (at-loop (c .before .before .before)))
-    (λ c. at-loop (c .before .before .before) .loop .inv .1)
-    (λ c. (at-loop (c .before .before .before) .loop .inv .0, pauses-long _ _ _ (c .before .before .before .before .before .before .loop-test .taken) (rw (← same (at-loop (c .before .before .before))) (found (c .before .before .before) _ (c .before .step3 .given .1)))))
     (λ c. lengths (c .before))
     (λ c. c .before .loop .inv .1)
     (λ c. (c .before .loop .inv .0, pauses-spent _ _ (omega (arith, c .loop-test .left)))))

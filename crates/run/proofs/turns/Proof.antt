@@ -61,12 +61,16 @@ behind-row c = c .before .before .before .before .before
 some-left : (c : tie.After-one-turn Inv-loop μ-loop) → 0 < row (behind-row c) .row-turns .result .left
 some-left c = c .before .before .before .before .if1 .taken
 
+-- the memories are back
+abbrev turned : tie.After-slice-known8 Inv-loop μ-loop → tie.After-one-turn Inv-loop μ-loop
+turned c = c .before .before .before .before .before .before
+
 -- it was executed, or it ended the run
 abbrev executed : tie.After-m Inv-loop μ-loop → tie.After-one-turn Inv-loop μ-loop
-executed c = c .before .before .before .before .before .before .before .before .before .before
+executed c = turned (c .before .before .before .before)
 
 abbrev stopped : tie.After-known-told Inv-loop μ-loop → tie.After-one-turn Inv-loop μ-loop
-stopped c = c .before .before .before .before .before .before .before .before .before
+stopped c = turned (c .before .before .before)
 
 loop-again : tie.Need-loop-again Inv-loop μ-loop
 loop-again c =
