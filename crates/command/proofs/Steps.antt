@@ -193,9 +193,6 @@ module _ (known : Known) (row : List ℕ) where
 
   -- too few words
   module _ (short : stepIn known row ≡ Short) where
-    short-plain : dataOf (kindIn row) ≡ none
-    short-plain = by-turn _ short (λ d q. true≢false cc) .0
-
     short-by : (t : Turn (Option Action)) → Turned (length row) t → stepBy t ≡ Short → (entry (kindIn row) .offered ≡ true) × (length row < entry (kindIn row) .head)
     short-by t (R.foreign p) q = absurd (true≢false cc)
     short-by t (R.no-head p r) q = (p, r)

@@ -58,17 +58,10 @@ getD-words ring lo hi p (suc n) (suc i) h l =
     getD-words ring lo hi (after lo hi p) n i (next-in lo hi p n h) (omega arith)
     ∙ ap (λ k. getD ring k 0) (ahead-after lo hi p i (record { from = h .from; below = h .below; held = omega arith }))
 
-pub getD-words-past : (ring : List ℕ) (lo hi p n i : ℕ) → n ≤ i → getD (words ring lo hi p n) i 0 ≡ 0
-getD-words-past ring lo hi p n i l = List·getD-eq-default (words ring lo hi p n) 0 (rw length-words l)
-
--- the two places where word i can be: straight on, and wrapped
+-- where the ring does not end before it, word i is at the place i further on
 pub getD-straight : (ring : List ℕ) (lo hi p n i : ℕ) → InRing lo hi p n → i < n → p + i < hi → getD (words ring lo hi p n) i 0 ≡ getD ring (p + i) 0
 unfolding ahead
 getD-straight ring lo hi p n i h l d = getD-words ring lo hi p n i h l ∙ rw (lt-ltb (p + i) hi d)
-
-pub getD-wrapped : (ring : List ℕ) (lo hi p n i : ℕ) → InRing lo hi p n → i < n → hi - p ≤ i → getD (words ring lo hi p n) i 0 ≡ getD ring (lo + (i - (hi - p))) 0
-unfolding ahead
-getD-wrapped ring lo hi p n i h l d = getD-words ring lo hi p n i h l ∙ rw (le-ltb (p + i) hi (omega arith)) (ap (λ k. getD ring k 0) (omega arith))
 
 pub take-words : (ring : List ℕ) (lo hi p n k : ℕ) → k ≤ n → take k (words ring lo hi p n) ≡ words ring lo hi p k
 unfolding words
