@@ -11,12 +11,12 @@ use borrow.Author.Tests.{ltb-true}
 use Rattle.cursor.specs.Plane.{signed}
 use Rattle.cursor.specs.Spans.{atOf, skipOf}
 
-by-test : (a b : ℕ) (t : Bool) → ltb a b ≡ t → mag (cond t (negsuc (b - suc a)) (pos (a - b))) ≤ a + b
-by-test a b true e = omega (arith, ltb-true a b e)
-by-test a b false e = omega arith
+mag-by-test : (a b : ℕ) (t : Bool) → ltb a b ≡ t → mag (cond t (negsuc (b - suc a)) (pos (a - b))) ≤ a + b
+mag-by-test a b true e = omega (arith, ltb-true a b e)
+mag-by-test a b false e = omega arith
 
 mag-subℕ : (a b : ℕ) → mag (subℕ a b) ≤ a + b
-mag-subℕ a b = by-test a b (ltb a b) refl
+mag-subℕ a b = mag-by-test a b (ltb a b) refl
 
 mag-add : (a b : ℤ) → mag (a +ℤ b) ≤ mag a + mag b + 1
 mag-add (pos a) (pos b) = omega arith
