@@ -15,7 +15,7 @@ use native.Mathlib.Omega.{arith}
 use lib.Dec.{eqb}
 use borrow.Author.Tests.{eqb-true, eqb-false, leb-true, le-leb, lt-leb}
 use borrow.Table.Steps.{cases}
-use Rattle.geometry.proofs.Tests.{by-cond}
+use Rattle.geometry.proofs.Tests.{by-cond, not-both}
 use Rattle.execution.specs.declared.Cause.{Cause}
 use Rattle.execution.specs.declared.Cause.the-variants.{NotOffered, BadOperand, TooLong}
 use Rattle.execution.specs.declared.End.the-variants.{Drained, Waiting, Fault}
@@ -51,7 +51,7 @@ use Rattle.device_run.proofs.RunLaws.{run-by}
 use Rattle.refusals.specs.Refusing.{isRefusal, Sizes, Make34, Write30, Write31, Write32, Write20, Write33, Write0, Read30}
 use Rattle.refusals.specs.Refusing.{Run20, Run22, Run21, Run24, Run23, Starts, NextUsable, lineOf, turnFor, PictureLent, Picture20, Picture24, Append1}
 use Rattle.refusals.specs.Refusing.{Turn0, Turn10, HeadMissing, HeadBad, Turn12, WordsMissing, OperandBad, Executes}
-use Rattle.refusals.proofs.Reasons.{not-both, fails, sizes-good, ring-usable, not-usable, picture-lent, next-usable, ranged}
+use Rattle.refusals.proofs.Reasons.{fails, sizes-good, ring-usable, not-usable, picture-lent, next-usable, ranged}
 use Rattle.refusals.proofs.Reasons.{stops-2, run-stops, run-next-unusable-count, fault-after, ring-carries}
 use Rattle.refusals.proofs.Reasons as Reasons
 use Rattle.refusals.proofs.Rules.{write-why, ended-taken, is-lent, not-lent, start, start-fits, start-ended, by-refusals, run-why}

@@ -11,7 +11,7 @@ use lib.Dec.{eqb, leb, eqb·zero-suc, eqb·suc-suc}
 use lib.ListN.{length}
 use borrow.Author.Tests.{eqb-true, leb-true, ltb-true, eq-eqb, ne-eqb, le-leb, lt-ltb}
 use borrow.Table.Steps.{cases}
-use Rattle.geometry.proofs.Tests.{both}
+use Rattle.geometry.proofs.Tests.{both, not-both}
 use Rattle.execution.specs.declared.Cause.{Cause}
 use Rattle.execution.specs.declared.Cause.the-variants.{NotOffered, BadOperand, TooLong, BadNext}
 use Rattle.execution.specs.declared.End.{End}
@@ -43,9 +43,6 @@ use Rattle.register_write.specs.Registers.{inRange}
 use Rattle.refusals.specs.Refusing.{Sizes, Ranged, RunLent, NextUsable, PictureLent}
 
 -- ---- tests
-
-pub not-both : {A : Type 0} (b : Bool) → b ≡ true → b ≡ false → A
-not-both b t f = absurd (false≢true (sym f ∙ t))
 
 -- a test that passes exactly where P holds fails exactly where it does not
 pub fails : {P : Type 0} (b : Bool) → (b ≡ true) ↔ P → (b ≡ false) ↔ (¬ P)

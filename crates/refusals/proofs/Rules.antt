@@ -10,7 +10,7 @@ use lib.Dec.{eqb}
 use lib.ListN.{length, take}
 use borrow.Author.Tests.{eqb-true, eqb-false, ne-eqb, leb-true, leb-false, le-leb, lt-leb}
 use borrow.Table.Steps.{cases}
-use Rattle.geometry.proofs.Tests.{by-cond}
+use Rattle.geometry.proofs.Tests.{by-cond, not-both}
 use Rattle.execution.specs.declared.Cause.the-variants.{NotOffered, BadOperand, TooLong, BadNext}
 use Rattle.execution.specs.declared.End.the-variants.{Drained, Waiting, Fault}
 use Rattle.execution.specs.Straight.{Turn, ends, exec}
@@ -32,7 +32,7 @@ use Rattle.register_write.proofs.Refusals.{Why, no-register, read-only, bad-val
 use Rattle.device_run.proofs.RunLaws.{run-by}
 use Rattle.refusals.specs.Refusing.{isRefusal, Write30, Write31, Write32, Write20, Write33, Write0, RunLent, Run20, Run22, Run21, Run24, Run23, Starts}
 use Rattle.refusals.specs.Refusing.{Turn0, Turn10, HeadMissing, HeadBad, Turn12, WordsMissing, OperandBad, Executes}
-use Rattle.refusals.proofs.Reasons.{not-both, fails, ring-usable, not-usable, lent-good, ranged}
+use Rattle.refusals.proofs.Reasons.{fails, ring-usable, not-usable, lent-good, ranged}
 use Rattle.refusals.proofs.Reasons.{stops-numbers, run-stops, not-idle, ring-fits}
 
 -- ---- register write

@@ -1,11 +1,12 @@
 -- Answer numbers of writes: each comes exactly when document 01's rule says so, and a refusal changes nothing.
 -- Assumes nothing.
-use mathlib.Core.Path.{_≡_, refl, sym, _∙_}
-use mathlib.Core.Bool.{Bool, true, false, false≢true}
+use mathlib.Core.Path.{_≡_, refl}
+use mathlib.Core.Bool.{true, false}
 use mathlib.Core.List.{List}
 use Prim.Native.Nat.{ℕ, _/_}
 use lib.ListN.{length}
 use borrow.Author.Tests.{eq-eqb, ne-eqb}
+use Rattle.geometry.proofs.Tests.{not-both}
 use Rattle.ring.specs.Acceptance.{usable}
 use Rattle.ring.proofs.Laws.{refused-when}
 use Rattle.register.specs.declared.Register.{Register}
@@ -49,9 +50,6 @@ pub data Why (d : Device) (ring : List ℕ) (index v : ℕ) : ℕ → Type 0 whe
   is-taken : (w : Writable) → registerOf index ≡ Writes w → inRange w v ≡ true
       → (w ≡ ConfigDone → v ≡ 1 → (length ring ≡ memoryOf d / 4) × (usable ring ≡ true)) → Why d ring index v 0
 
-not-both : {b : Bool} → b ≡ false → b ≡ true → ⊥
-not-both f t = false≢true (sym f ∙ t)
-
 module _ (d : Device) (ring : List ℕ) (v : ℕ) (index : ℕ) where
   -- CONFIG_DONE 1 is in its range, and asks for the ring
   one-in-range : (w : Writable) → w ≡ ConfigDone → v ≡ 1 → inRange w v ≡ true
@@ -64,7 +62,7 @@ module _ (d : Device) (ring : List ℕ) (v : ℕ) (index : ℕ) where
 
   why-writes : (w : Writable) → registerOf index ≡ Writes w → {o : WriteOutcome} → Went d ring v w o → Why d ring index v (o .answer)
   why-writes w e (outside f) = bad-value w e f
-  why-writes w e (effected t n) = is-taken w e t (λ c o. absurd (not-both n (one-asks w c o)))
+  why-writes w e (effected t n) = is-taken w e t (λ c o. not-both _ (one-asks w c o) n)
   why-writes w e (other-length c o n) = wrong-length (rw c at e) o n
   why-writes w e (unusable c o n u) = ring-refused (rw c at e) o n u
   why-writes w e (accepts c o n u) = is-taken w e (one-in-range w c o) (λ c o. (n, u))
@@ -78,10 +76,10 @@ module _ (d : Device) (ring : List ℕ) (v : ℕ) (index : ℕ) where
   takes-value : (w : Writable) → inRange w v ≡ true
       → (w ≡ ConfigDone → v ≡ 1 → (length ring ≡ memoryOf d / 4) × (usable ring ≡ true))
       → {o : WriteOutcome} → Went d ring v w o → o .answer ≡ 0
-  takes-value w t r (outside f) = absurd (not-both f t)
+  takes-value w t r (outside f) = not-both _ t f
   takes-value w t r (effected k n) = refl
   takes-value w t r (other-length c o n) = absurd (n (r c o .0))
-  takes-value w t r (unusable c o n u) = absurd (not-both u (r c o .1))
+  takes-value w t r (unusable c o n u) = not-both _ (r c o .1) u
   takes-value w t r (accepts c o n u) = refl
 
 -- A number comes only where its rule holds,
