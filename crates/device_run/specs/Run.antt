@@ -21,7 +21,7 @@ use Rattle.device.specs.declared.Device.{Device}
 use Rattle.device_run.specs.declared.Ran.{Ran}
 use Rattle.device_run.specs.declared.RunAnswer.{RunAnswer}
 use Rattle.device_run.specs.declared.RunAnswer.the-variants.{Spent, Ended, WrongLength, Disabled, NotConfigured, FaultStands, TooLarge}
-use Rattle.device.specs.Device.{memoryOf, pixelsOf, widthOf, heightOf, enabledOf, configuredOf, modeFits, wellFormed}
+use Rattle.device.specs.Device.{memoryOf, pixelsOf, widthOf, heightOf, enabledOf, configuredOf, conditionOf, modeFits, wellFormed}
 
 -- run: 0 drained, 1 waiting for the rest of a command, 2 budget spent, 10 to 13 a fault, 20 lent length, 21 disabled, 22 not configured, 23 fault
 -- already standing, 24 width·height above P
@@ -140,9 +140,9 @@ module _ (d : Device) (l : Lent) where
   runOf budget =
       cond (wellFormed d)
       (cond (lentGood d l)
-      (cond (d .registers .config)
-      (cond (d .registers .enable)
-      (cond (modeFits d) (runBy budget (d .condition)) (refusedRun 24))
+      (cond (configuredOf d)
+      (cond (enabledOf d)
+      (cond (modeFits d) (runBy budget (conditionOf d)) (refusedRun 24))
       (refusedRun 21))
       (refusedRun 22))
       (refusedRun 20))
