@@ -4,24 +4,20 @@ use mathlib.Core.Path.{_≡_, refl, sym, ap, ap₂, _∙_, subst₂}
 use mathlib.Core.Bool.{true, false}
 use mathlib.Core.Option.{Option, none, some}
 use mathlib.Core.List.{List}
-use Prim.Native.Nat.{ℕ, _+_, _*_, _/_, _≤_, _<_}
+use Prim.Native.Nat.{ℕ, _+_, _≤_, _<_}
 use native.Mathlib.Omega.{arith}
-use lib.ListN.{length, take, getD}
+use lib.ListN.{length, getD}
 use borrow.Author.Tests.{ne-eqb}
 use Rattle.geometry.proofs.Tabulate.{length-tabulate, getD-tabulate}
 use Rattle.execution.specs.declared.Cause.the-variants.{BadOperand, TooLong}
 use Rattle.execution.specs.declared.End.the-variants.{Waiting, Fault}
 use Rattle.execution.specs.Straight.{Turn, ends, exec}
-use Rattle.cursor.specs.declared.Shape.{Shape}
-use Rattle.cursor.specs.Plane.{shapeGood}
 use Rattle.command.specs.declared.Action.{Action}
-use Rattle.command.specs.declared.Action.the-variants as A
 use Rattle.command.specs.declared.Data.{Data}
 use Rattle.command.specs.declared.Data.the-variants as D
-use Rattle.command.specs.declared.Kind.the-variants.{DefineAlphaCursor, Escape}
 use Rattle.command.specs.Commands.{Known, entry, sizeBy, shapeAt, kindOf, kindIn}
-use Rattle.command.specs.Findings.{findings, findsIn, kindWith, begun}
-use Rattle.command.proofs.Laws.{Begin, Alike, alike, head-some}
+use Rattle.command.specs.Findings.{findsIn, kindWith, begun}
+use Rattle.command.proofs.Laws.{Begin, Alike, alike}
 use Rattle.command.proofs.Rules.{Ruled, foreign, no-head, bad-head, long, no-rest, bad, well, ruled, by-rule}
 
 -- ---- words that begin alike are found alike

@@ -1,14 +1,12 @@
 -- What holds of document 01's rows: a turn looks at a command's own words, and the table keeps what the theorem of `execution` asks.
 -- Assumes nothing.
-use mathlib.Core.Path.{_≡_, refl, sym, ap, _∙_}
-use mathlib.Core.Bool.{Bool, true, false}
-use mathlib.Core.List.{List, [], _∷_}
+use mathlib.Core.Path.{_≡_, refl, ap, _∙_}
+use mathlib.Core.List.{List}
 use Prim.Native.Nat.{ℕ, _+_, _≤_, _<_}
 use native.Mathlib.Omega.{arith}
-use lib.ListN.{length, take, getD}
+use lib.ListN.{take, getD}
 use lib.Seq.{getD-take}
-use Rattle.execution.specs.Straight.{Turn, ends, exec}
-use Rattle.execution.specs.Table.{Table, headOf, sizeOf, allOf, turnAt, turnOf}
+use Rattle.execution.specs.Table.{headOf, sizeOf, allOf, turnOf}
 use Rattle.execution.proofs.Laws.{Laws}
 use Rattle.execution.proofs.Tables.{laws-of}
 use Rattle.command.specs.declared.Action.{Action}

@@ -1,22 +1,21 @@
 -- A turn of document 01's table by the rows, on all the words that wait.
 -- Assumes nothing.
-use mathlib.Core.Path.{_≡_, refl, sym, ap, _∙_, subst₂}
+use mathlib.Core.Path.{_≡_, refl, sym, _∙_, subst₂}
 use mathlib.Core.Bool.{true, false}
 use mathlib.Core.Option.{Option, none, some}
-use mathlib.Core.List.{List, [], _∷_, _++_}
-use Prim.Native.Nat.{ℕ, _+_, _≤_, _<_}
+use mathlib.Core.List.{List, [], _∷_}
+use Prim.Native.Nat.{ℕ, _≤_, _<_}
 use native.Mathlib.Omega.{arith}
 use lib.ListN.{length, take, getD}
-use Rattle.execution.specs.declared.Cause.{Cause}
 use Rattle.execution.specs.declared.Cause.the-variants.{NotOffered, BadOperand, TooLong}
 use Rattle.execution.specs.declared.End.the-variants.{Drained, Waiting, Fault}
 use Rattle.execution.specs.Straight.{Turn, ends, exec}
-use Rattle.execution.specs.Table.{Table, headOf, sizeOf, allOf, turnAt, turnOf}
+use Rattle.execution.specs.Table.{Table, turnAt, turnOf}
 use Rattle.execution.proofs.Tables.{way, turn-by}
 use Rattle.execution.proofs.Tables as W
 use Rattle.command.specs.declared.Action.{Action}
-use Rattle.command.specs.Commands.{Known, entry, sizeBy, kindOf, kindIn, commands}
-use Rattle.command.specs.Findings.{findings, findsIn}
+use Rattle.command.specs.Commands.{Known, entry, sizeBy, kindIn, commands}
+use Rattle.command.specs.Findings.{findsIn}
 use Rattle.command.proofs.Laws.{by-head, by-size, by-good, by-effect}
 
 -- where there are words, a turn goes by the first of them

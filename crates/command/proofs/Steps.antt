@@ -4,20 +4,17 @@ use mathlib.Core.Path.{_≡_, refl, sym, ap, _∙_}
 use mathlib.Core.Bool.{true, false, true≢false}
 use mathlib.Core.Option.{Option, none, some}
 use mathlib.Core.List.{List, [], _∷_, _++_}
-use Prim.Native.Nat.{ℕ, _+_, _≤_, _<_}
+use Prim.Native.Nat.{ℕ, _≤_, _<_}
 use native.Mathlib.Omega.{arith}
 use lib.Dec.{eqb}
-use lib.ListN.{length, take, getD}
+use lib.ListN.{length}
 use mathlib.Core.Logic.{_≢_}
 use borrow.Author.Tests.{eqb-true, eqb-false}
 use borrow.Table.Steps.{cases}
 use Rattle.execution.specs.declared.Cause.{Cause}
-use Rattle.execution.specs.declared.Cause.the-variants.{NotOffered, BadOperand, TooLong, BadNext}
-use Rattle.execution.specs.declared.End.{End}
+use Rattle.execution.specs.declared.Cause.the-variants.{NotOffered, BadOperand}
 use Rattle.execution.specs.declared.End.the-variants.{Drained, Waiting, Fault}
 use Rattle.execution.specs.Straight.{Turn, ends, exec}
-use Rattle.execution.specs.Table.{turnOf}
-use Rattle.execution.proofs.Laws.{Laws}
 use Rattle.command.specs.declared.Action.{Action}
 use Rattle.command.specs.declared.Action.the-variants as A
 use Rattle.command.specs.declared.Data.{Data}
@@ -26,8 +23,8 @@ use Rattle.command.specs.declared.Kind.{Kind}
 use Rattle.command.specs.declared.Kind.the-variants.{Update, RectFill, RectCopy, RectRopFill, RectRopCopy, DefineAlphaCursor, UpdateVerbose, Fence, Escape, Foreign}
 use Rattle.command.specs.declared.Step.{Step}
 use Rattle.command.specs.declared.Step.the-variants.{Does, Short, Faults, Long}
-use Rattle.command.specs.Commands.{Known, entry, sizeBy, kindOf, kindIn, commands}
-use Rattle.command.specs.Findings.{findings, findsIn, dataOf, stepBy, stepFor, stepIn, kindWith}
+use Rattle.command.specs.Commands.{Known, entry, sizeBy, kindOf, kindIn}
+use Rattle.command.specs.Findings.{findings, findsIn, dataOf, stepBy, stepIn, kindWith}
 use Rattle.command.proofs.Laws.{head-some, command-laws}
 use Rattle.command.proofs.Rules.{ruled, by-rule, turn-none}
 use Rattle.command.proofs.Rules as R

@@ -1,7 +1,7 @@
 -- A device as 64 words, as a host in another language keeps it: the project's own layout, for what document 01 has a device hold.
 use Prim.Native.Nat.{ℕ}
 use mathlib.Core.Bool.{Bool, true, false, cond, _&&_}
-use mathlib.Core.List.{List, [], _∷_, _++_}
+use mathlib.Core.List.{List, [], _∷_}
 use lib.Dec.{eqb}
 use lib.ListN.{length, getD, replicate}
 use Rattle.ring.specs.declared.Ring.{Ring}

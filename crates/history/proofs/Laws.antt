@@ -21,7 +21,7 @@ use Rattle.run.specs.Run.{knownOf}
 use Rattle.device.specs.declared.Condition.the-variants.{Running}
 use Rattle.device.specs.Device.{conditionOf}
 use Rattle.history.specs.Calls.{World, CallOutcome, perform, History, performAll}
-use Rattle.history.specs.Demand.{isStart, sceneOf, worldTurn, worldMachine, callOf, numbersOf, Demand, Shown}
+use Rattle.history.specs.Demand.{isStart, sceneOf, worldTurn, worldMachine, callOf, numbersOf, Shown}
 use Rattle.history.specs.Replay.{opsOf, walk, walkOf, Replays}
 use Rattle.history.proofs.Places.{in-words}
 use Rattle.history.proofs.Steps.{Started, Shows, Step, shows-stands, shows-ring, shows-stop, append-step, run-step, started, start-shows}

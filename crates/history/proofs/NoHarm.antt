@@ -35,7 +35,7 @@ use Rattle.device.proofs.Laws.{well-formed}
 use Rattle.register_write.proofs.Kept.{sizes-kept, marks-kept}
 use Rattle.register_write.proofs.Refusals.{Why, no-register, read-only, bad-value, wrong-length, ring-refused, is-taken, why, ill-formed-write}
 use Rattle.history.proofs.KeptByRun.{NotStanding, Refusal, lent-length, disabled, not-configured, fault-stands, too-large, Open, ranIn, by-run, left-sound, left-stays, open-sound, refused-run, run-count, beyond-rows}
-use Rattle.history.specs.Calls.{World, Call, make, write, read, run, append, picture, offscreen, fence, passed, lend, CallOutcome, perform, performAll}
+use Rattle.history.specs.Calls.{World, Call, make, write, read, run, append, picture, offscreen, fence, passed, lend, perform, performAll}
 use Rattle.history.specs.Harm.{row, among, SameBut, InMode, WriteChanges, RunChanges, AppendChanges, PictureChanges, OnlyNamed, Safe, Harmless}
 use Rattle.history.proofs.Starts.{writes-number, refused-stays}
 

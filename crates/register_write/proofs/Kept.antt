@@ -11,8 +11,7 @@ use lib.ListN.{length}
 use borrow.Author.Tests.{eqb-true, eqb-false, eq-eqb}
 use borrow.Table.Steps.{cases}
 use Rattle.ring.specs.declared.Ring.{Ring}
-use Rattle.ring.specs.declared.Acceptance.the-variants.{Accepted}
-use Rattle.ring.specs.Acceptance.{minOf, maxOf, stopOf, usable, accepted}
+use Rattle.ring.specs.Acceptance.{minOf, maxOf, stopOf, usable}
 use Rattle.ring.proofs.Laws.{accepted-when, refused-when, accepted-placed}
 use Rattle.register.specs.declared.Register.{Register}
 use Rattle.register.specs.declared.Register.the-variants.{Writes, Reads, Absent}

@@ -1,7 +1,6 @@
 // The command ring's words 0 to 3, MIN, MAX, NEXT_CMD and STOP: when they are accepted, what is then remembered, and the guest's append.
 ghost use mathlib.Core.Path.{_≡_};
 ghost use Prim.Native.Nat.{_+_, _≤_};
-ghost use lib.ListN.{length};
 ghost use Rattle.ring.specs.Acceptance.{offsetUsable, boundsUsable, usable, accepted};
 ghost use Rattle.ring.specs.Waiting.{placed, nextGood};
 ghost use Rattle.ring.specs.Append.{movedOn, appendNumber, appended, appendOf};

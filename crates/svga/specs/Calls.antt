@@ -7,8 +7,7 @@ use lib.Dec.{eqb}
 use lib.ListN.{length}
 use Rattle.device.specs.declared.Device.{Device}
 use Rattle.adapter.specs.declared.Edges.{Edges}
-use Rattle.device.specs.Making.{Creation, madeOf}
-use Rattle.register_read.specs.Answers.{Reading}
+use Rattle.device.specs.Making.{madeOf}
 use Rattle.adapter.specs.Picture.{Pictured, pictureOf}
 use Rattle.register_read.specs.Registers.{bit, readOf}
 use Rattle.register_write.specs.Registers.{written}

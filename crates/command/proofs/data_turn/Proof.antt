@@ -1,10 +1,9 @@
 -- `command::data_turn` meets its contract.
 -- Assumes nothing.
 use mathlib.Core.Path.{sym, _∙_}
-use Prim.Native.Nat.{_≤_}
 use native.Mathlib.Omega.{arith}
 use borrow.Author.Needs.{needs}
-use Rattle.command.specs.Findings.{findings, begun}
+use Rattle.command.specs.Findings.{findings}
 use Rattle.command.proofs.Begun.{length-begun}
 use Rattle.command.proofs.Rules.{turn-none}
 use Rattle.command.proofs.data_turn.Statement.{statement}

@@ -1,10 +1,9 @@
 -- `command::escape_turn` meets its contract.
 -- Assumes nothing.
 use mathlib.Core.Path.{_≡_, refl, sym, ap, _∙_}
-use Prim.Native.Nat.{ℕ, _+_, _/_, _≤_}
+use Prim.Native.Nat.{_+_, _/_, _≤_}
 use native.Mathlib.Omega.{arith}
 use borrow.Author.Needs.{needs}
-use lib.ListN.{getD}
 use Rattle.command.specs.declared.Action.the-variants.{Nothing}
 use Rattle.command.specs.declared.Data.the-variants.{Escape}
 use Rattle.command.specs.declared.Kind.the-variants as K

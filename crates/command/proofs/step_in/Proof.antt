@@ -1,14 +1,11 @@
 -- `command::step_in` meets its contract.
 -- Assumes nothing.
-use mathlib.Core.Path.{_≡_, refl, sym, _∙_}
+use mathlib.Core.Path.{refl, sym, _∙_}
 use borrow.Author.Needs.{needs}
-use Prim.Native.Nat.{_≤_}
 use native.Mathlib.Omega.{arith}
-use lib.ListN.{length}
 use Rattle.command.specs.declared.Kind.the-variants.{Foreign}
 use Rattle.command.specs.declared.Data.the-variants.{Cursor, Escape}
-use Rattle.command.specs.Commands.{entry, kindIn}
-use Rattle.command.specs.Findings.{dataOf}
+use Rattle.command.specs.Commands.{entry}
 use Rattle.command.proofs.Steps.{step-none, step-long, step-foreign}
 use Rattle.command.proofs.step_in.Statement.{statement}
 use Rattle.command.proofs.step_in.Tie as tie
