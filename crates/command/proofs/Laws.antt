@@ -61,7 +61,7 @@ head-some Foreign = (omega arith, omega arith)
 -- ---- the table by its rows
 
 module _ {S : Type 0} (knownOf : S → Known) (does : Action → List ℕ → S → S) where
-  -- "the theorem's laws": the ring carries every head, and a command has a word
+  -- what demand 3's theorem asks of a table: the ring carries every head, and a command has a word
   pub command-laws : (cap : ℕ) → 10 ≤ cap → Laws cap (turnOf cap (commands knownOf does))
   unfolding commands
   command-laws cap h = laws-of cap (commands knownOf does) (record {

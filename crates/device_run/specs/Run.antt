@@ -128,7 +128,7 @@ module _ (d : Device) (l : Lent) where
   abbrev pub refusedRun : ℕ → RunOutcome
   refusedRun answer = record { answer = answer; count = 0; device = d; lent = l }
 
-  -- "23: fault already standing". A device that is configured has a ring or a fault.
+  -- 23 is "fault already standing". A device that is configured has a ring or a fault.
   unfoldable pub runBy : ℕ → Condition → RunOutcome
   runBy budget Idle = refusedRun 22
   runBy budget (Running g) =

@@ -59,7 +59,7 @@ pub words-count : (d : Device) → length (wordsOf d) ≡ 64
 unfolding wordsOf
 words-count d = refl
 
--- "Reading back what was written gives the same device."
+-- Reading back what was written gives the same device.
 pub read-back : (d : Device) → wellFormed d ≡ true → heldIn (wordsOf d) ≡ Holds d
 unfolding heldIn spelledIn
 read-back d m = rw (eq-eqb _ _ (words-count d), device-back d, same-itself (wordsOf d), m)

@@ -94,7 +94,7 @@ pub record Remains (r : Rect) (width rows px py : ℕ) : Type 0 where
   pub across : px < width
   pub down : py < rows
 
--- "nothing left" exactly when no pixel remains
+-- nothing is left exactly when no pixel remains
 pub nothing-left : (r : Rect) (width rows : ℕ)
     → (cutTo r width rows ≡ Nothing → (px py : ℕ) → Remains r width rows px py → ⊥)
     × (((px py : ℕ) → Remains r width rows px py → ⊥) → cutTo r width rows ≡ Nothing)

@@ -104,7 +104,7 @@ enableWritten d v =
     withBusy (withRegisters d (setState (d .registers) (d .registers .id) (not (eqb v 0)) (d .registers .config)))
     (cond (eqb v 0) false (d .busy))
 
--- "2 WIDTH, 3 HEIGHT": the mode is width by height.
+-- "2 WIDTH (1 to 2,560), 3 HEIGHT (1 to 1,600)": the mode is width by height.
 abbrev pub widthWritten : Device → ℕ → Device
 widthWritten d v = withRegisters d (setMode (d .registers) v (heightOf d))
 

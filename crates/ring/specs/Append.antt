@@ -34,6 +34,6 @@ pub record Appended : Type 0 where
 abbrev pub appended : AppendAnswer → List ℕ → Appended
 appended a ring = record { answer = appendNumber a; ring = ring }
 
--- "0 taken, 1 refused": what an append answers and leaves.
+-- What an append answers, 0 taken and 1 refused, and what it leaves.
 unfoldable pub appendOf : List ℕ → ℕ → Appended
 appendOf ring x = record { answer = cond (canAppend ring) 0 1; ring = appendTo ring x }
