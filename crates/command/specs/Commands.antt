@@ -48,15 +48,39 @@ plain = 3
 
 -- a command of fixed length that is never refused
 abbrev pub fixed : ℕ → ℕ → (List ℕ → Action) → Entry
-fixed number words action = record { number = number; offered = true; head = words; behind = λ w. 0; headGood = λ w. true; good = λ s w. true; action = action }
+fixed number words action = record {
+  number = number;
+  offered = true;
+  head = words;
+  behind = λ w. 0;
+  headGood = λ w. true;
+  good = λ s w. true;
+  action = action;
+}
 
 -- "Raster operation above 15: 11.": one whose word i is a raster operation
 abbrev pub operated : ℕ → ℕ → ℕ → (List ℕ → Action) → Entry
-operated number words i action = record { number = number; offered = true; head = words; behind = λ w. 0; headGood = λ w. true; good = λ s w. leb (getD w i 0) 15; action = action }
+operated number words i action = record {
+  number = number;
+  offered = true;
+  head = words;
+  behind = λ w. 0;
+  headGood = λ w. true;
+  good = λ s w. leb (getD w i 0) 15;
+  action = action;
+}
 
 -- one with data behind its head
 abbrev pub followed : ℕ → ℕ → (List ℕ → ℕ) → (List ℕ → Bool) → (List ℕ → Action) → Entry
-followed number words behind good action = record { number = number; offered = true; head = words; behind = behind; headGood = good; good = λ s w. true; action = action }
+followed number words behind good action = record {
+  number = number;
+  offered = true;
+  head = words;
+  behind = behind;
+  headGood = good;
+  good = λ s w. true;
+  action = action;
+}
 
 -- The table. "Cursor: w and h 1 to 64, hotx < w, hoty < h, else 11." A plain fill or copy is operation 3; UPDATE_VERBOSE is "as 1, reason (no effect)";
 -- ESCAPE's "data (no effect)". Any other number is not offered: no row, and its one word is never looked at further.

@@ -129,8 +129,8 @@ module _ {S : Type 0} (cap : ℕ) (turn : S → List ℕ → Turn S) where
   says a none (run b) = ran (verdict (eqb (min b (whole turn a)) b) (ending turn a)) (min b (whole turn a))
   says a (some c) (run b) = ran standing 0
 
-  -- Demand 3, all but ring word 3, which the ring's layer adds. From an empty ring and the machine s₀ the operations es, with these answers, have led to the words waiting and the machine z,
-  -- and to the standing fault f.
+  -- Demand 3, all but ring word 3, which the ring's layer adds. From an empty ring and the machine s₀ the operations es, with these answers, have led
+  -- to the words waiting and the machine z, and to the standing fault f.
   pub record Demand3 (s₀ : S) (es : List Event) (z : Line S) (f : Option Cause) : Type 0 where
     -- "After the list, the first k steps all execute": of the list, and of each of its first parts p
     pub executes : (p r : List Event) → es ≡ p ++ r → steps turn (countAll p) (start s₀ p) ≡ countAll p

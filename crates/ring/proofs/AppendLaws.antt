@@ -1,4 +1,5 @@
--- Laws of an append: the waiting words become longer by its word, it is refused exactly where the ring is full, and it leaves everything else alone; and what it answers at each of its three ends.
+-- Laws of an append: the waiting words become longer by its word, it is refused exactly where the ring is full, and it leaves everything else alone; and
+-- what it answers at each of its three ends.
 -- Assumes nothing.
 use mathlib.Core.Path.{_≡_, sym, ap₂, _∙_}
 use mathlib.Core.Bool.{true, false, and-eq-true-iff}

@@ -16,7 +16,8 @@ movedOn min max offset = cond (eqb (offset + 4) max) min (offset + 4)
 unfoldable pub canAppend : List ℕ → Bool
 canAppend ring = usable ring && not (eqb (movedOn (minOf ring) (maxOf ring) (nextOf ring)) (stopOf ring))
 
--- "An append writes its word at NEXT_CMD and moves NEXT_CMD on by 4, MAX becoming MIN; if that would make it equal ring word 3, it is refused and nothing changes."
+-- "An append writes its word at NEXT_CMD and moves NEXT_CMD on by 4, MAX becoming MIN; if that would make it equal ring word 3, it is refused and nothing
+-- changes."
 unfoldable pub appendTo : List ℕ → ℕ → List ℕ
 appendTo ring x =
     cond (canAppend ring) (set (set ring (nextOf ring / 4) x) 2 (movedOn (minOf ring) (maxOf ring) (nextOf ring))) ring

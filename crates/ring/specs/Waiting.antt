@@ -1,4 +1,5 @@
--- The words that wait in a ring: document 01, "One command out of the ring". Places and numbers of words are in words of the ring memory, not in bytes: the ring is from lo to below hi.
+-- The words that wait in a ring: document 01, "One command out of the ring". Places and numbers of words are in words of the ring memory, not in bytes:
+-- the ring is from lo to below hi.
 use mathlib.Core.Bool.{Bool, cond, _&&_}
 use mathlib.Core.List.{List, [], _∷_}
 use Prim.Native.Nat.{ℕ, zero, suc, _+_, _-_, _/_, _%_}
