@@ -1,5 +1,6 @@
 -- The ring as a queue, and appends and runs of it, turn by turn in document 01's order.
--- Nothing here has to be believed: code is held to these definitions, and that they meet the claim is a theorem.
+-- `runs`, with what it gives, has to be believed: it is what the contract of a run says the code does (`run/Run.runWords`). The queue around it, `Queue`
+-- and what acts on it, has not: that it meets the claim is a theorem for any turn (`QueueLaws.demand3`), and what is claimed of the device does not name it.
 use mathlib.Core.Bool.{Bool, true, false}
 use mathlib.Core.Option.{Option, none, some}
 use mathlib.Core.List.{List, [], _∷_}
