@@ -1,11 +1,13 @@
 #!/usr/bin/env python3
 """names.py: what the documents name in backticks is there, and their links lead somewhere.
 
-In docs/PROMISES.md and docs/ARCHITECTURE.md:
+In docs/PROMISES.md, docs/ARCHITECTURE.md, docs/DECISIONS.md and CONTRIBUTING.md:
   `crate::name`       a function, struct or enum of crates/CRATE/src, or one of another crate that it passes on by 'pub use'
   `crate/File.name`   a declaration of crates/CRATE/specs/File.antt or crates/CRATE/proofs/File.antt
-  `any/path`          a file or folder of the repository (target/ is made by rt, and passed over), as crates/raster/proofs/fill
-Other words in backticks mean nothing here. In README.md and docs/*.md each link to a local file must lead to one.
+  `any/path`          a file or folder of the repository (target/ is made by rt, and passed over), as crates/raster/proofs/fill;
+                      NAME and LABEL in it stand for any name, of which there must be one
+Other words in backticks mean nothing here. In README.md, CONTRIBUTING.md and docs/*.md each link to a local file must
+lead to one.
 """
 import re
 
@@ -88,7 +90,8 @@ def check_declaration(where, crate, file, name):
 def check_path(where, path):
     if path.startswith("target/") or "://" in path:
         return
-    there = any(ROOT.glob(path.strip("/"))) if "*" in path else (ROOT / path.lstrip("/")).exists()
+    pattern = re.sub(r"\b(?:NAME|LABEL)\b", "*", path)
+    there = any(ROOT.glob(pattern.strip("/"))) if "*" in pattern else (ROOT / path.lstrip("/")).exists()
     if not there:
         report.fail(f"{where}: `{path}`: there is no such file or folder")
 
@@ -131,12 +134,12 @@ def check_links(document):
 
 def main():
     references = links = 0
-    for name in "docs/PROMISES.md", "docs/ARCHITECTURE.md":
+    for name in "docs/PROMISES.md", "docs/ARCHITECTURE.md", "docs/DECISIONS.md", "CONTRIBUTING.md":
         if (ROOT / name).is_file():
             references += check_references(ROOT / name)
         else:
             report.fail(f"{name} is missing")
-    for document in [ROOT / "README.md", *sorted((ROOT / "docs").glob("*.md"))]:
+    for document in [ROOT / "README.md", ROOT / "CONTRIBUTING.md", *sorted((ROOT / "docs").glob("*.md"))]:
         if document.is_file():
             links += check_links(document)
         else:
