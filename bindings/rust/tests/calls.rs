@@ -420,7 +420,7 @@ fn a_picture_is_refused() {
     large.write(&[], reg::HEIGHT, 33).unwrap();
     assert_eq!(large.picture(screen, cursor, &mut output), Err(Error::ModeTooLarge { width: 32, height: 33, pixels: 1_024 }));
     assert_eq!(large.picture(screen, &[], &mut output), length(Memory::Cursor, 0, 4_096), "lengths come first");
-    assert!(output.iter().all(|&word| word == 7), "a refused picture writes nothing");
+    assert!(output.iter().all(|&word| word == 7), "a refused picture changes nothing");
 
     let mut small = device.clone();
     small.write(&[], reg::HEIGHT, 31).unwrap();

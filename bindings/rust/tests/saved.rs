@@ -192,7 +192,7 @@ fn a_device_of_another_length_is_refused_by_every_call() {
     }
     let mut device = [7; DEVICE_WORDS];
     assert_eq!(sys::make(&mut device, 0, PIXELS), answer::BAD_SIZES);
-    assert_eq!(device, [7; DEVICE_WORDS], "a refused making writes nothing");
+    assert_eq!(device, [7; DEVICE_WORDS], "a refused making changes nothing");
     assert_eq!(sys::make(&mut device, MEMORY, PIXELS), answer::TAKEN);
     assert_eq!(device[28..], [0; 36], "all words are written");
 }

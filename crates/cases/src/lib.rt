@@ -4,6 +4,7 @@ ghost use lib.ListN.{length};
 ghost use Rattle.cases.specs.Cases.{cases};
 
 // How many cases the list has.
+// Rules out: a case left out; one counted twice.
 pub fn how_many() -> u32
     ensures { λ r. ⌜ r ≡ length cases ⌝ }
 {

@@ -203,7 +203,7 @@ pub fn make(memory: u32, pixels: u32) -> Making
 }
 
 // Whether the mode's pixels are at most P.
-// Rules out: a mode of 65,536 by 65,536 that fits since its product wraps.
+// Rules out: a mode of 65,536 by 65,536 that fits since its product wraps; a mode of exactly P pixels that does not.
 pub fn mode_fits(d: Device) -> bool
     ensures { λ r. ⌜ r ≡ modeFits d ⌝ }
 {

@@ -128,7 +128,7 @@ pub fn is_placed(g: Ring, words: usize) -> bool
 }
 
 // Whether a run can go by NEXT_CMD: a multiple of 4 inside the remembered ring.
-// Rules out: a NEXT_CMD equal to MAX.
+// Rules out: a NEXT_CMD equal to MAX; one that is no multiple of 4.
 pub fn next_good(g: Ring, next: u32) -> bool
     ensures { λ r. ⌜ r ≡ nextGood g next ⌝ }
 {
