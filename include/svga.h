@@ -253,7 +253,8 @@ uint64_t svga_read(const uint32_t *device, size_t device_len, uint32_t index);
 
 /*
  * Runs commands out of the ring, `budget` at the most: svga_answer_of gives the answer, svga_value_of the number of commands consumed.
- * A budget of 0 answers SVGA_ANSWER_SPENT. Changes:
+ * A budget of 0 answers SVGA_ANSWER_SPENT. The budget bounds the time that a hostile guest can take: one command paints at most P pixels,
+ * so a run takes at most `budget` times what an update of the whole screen takes (README, "Choosing a budget"). Changes:
  *   - of the screen, pixels in the commands' rectangles cut to the mode, and no others
  *   - of the cursor image, for a cursor of w by h the first w * h words
  *   - of the ring, word SVGA_FIFO_STOP, if a command was consumed
