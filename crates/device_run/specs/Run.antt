@@ -8,13 +8,16 @@ use lib.ListN.{length}
 use denote.Ref.{RefT, now}
 use denote.Triple.Both.{Both}
 use Rattle.execution.specs.declared.End.the-variants.{Drained, Waiting, Fault}
-use Rattle.execution.specs.Straight.{endNumber}
+use Rattle.execution.specs.Straight.{endNumber, Turn, Line}
+use Rattle.execution.specs.Table.{turnOf}
 use Rattle.execution.specs.Claim.{Answer, spent, standing, ended, answerNumber}
 use Rattle.cursor.specs.Plane.{imageWords}
 use Rattle.ring.specs.declared.Ring.{Ring}
-use Rattle.effect.specs.Effects.{scene, Machine}
+use Rattle.ring.specs.Acceptance.{nextOf}
+use Rattle.ring.specs.Waiting.{waiting, carried}
+use Rattle.effect.specs.Effects.{Scene, scene, Machine}
 use Rattle.run.specs.declared.RingRun.{RingRun}
-use Rattle.run.specs.Run.{RingOutcome, ringOutcome, machine, runIn}
+use Rattle.run.specs.Run.{RingOutcome, ringOutcome, machine, table, runIn}
 use Rattle.device.specs.declared.Condition.{Condition}
 use Rattle.device.specs.declared.Condition.the-variants.{Idle, Running, Faulted}
 use Rattle.device.specs.declared.Device.{Device}
@@ -111,6 +114,18 @@ settled d o = record {
 abbrev pub machineOf : Device → Lent → Machine
 machineOf d l = machine (d .marks) (l .screen) (l .cursor)
 
+-- What a run does not change: the device's mode and the lent framebuffer.
+abbrev pub sceneFor : Device → Lent → Scene
+sceneFor d l = scene (widthOf d) (heightOf d) (l .framebuffer)
+
+-- The words that wait from the remembered STOP up to NEXT_CMD, with the machine that they work on.
+abbrev pub lineOf : Device → Lent → Ring → Line Machine
+lineOf d l g = record { words = waiting (l .ring) (g .min) (g .max) (g .stop) (nextOf (l .ring) / 4); machine = machineOf d l }
+
+-- What a turn finds in the words that wait, by document 01's table.
+abbrev pub turnFor : Device → Lent → Ring → Machine → List ℕ → Turn Machine
+turnFor d l g = turnOf (carried (g .min) (g .max)) (table (sceneFor d l))
+
 -- What a run leaves of the lent memories: "framebuffer never".
 abbrev pub leftOf : Lent → RingOutcome → Lent
 leftOf l o = lent (o .ring) (l .framebuffer) (o .machine .screen) (o .machine .cursor)
@@ -132,7 +147,7 @@ module _ (d : Device) (l : Lent) where
   unfoldable pub runBy : ℕ → Condition → RunOutcome
   runBy budget Idle = refusedRun 22
   runBy budget (Running g) =
-      ran d l (runIn (scene (widthOf d) (heightOf d) (l .framebuffer)) g budget (l .ring) (machineOf d l))
+      ran d l (runIn (sceneFor d l) g budget (l .ring) (machineOf d l))
   runBy budget (Faulted c) = refusedRun 23
 
   -- "A run checks 20, 22, 21, 24, 23 in that order". A device that no call can have made answers 22.

@@ -40,7 +40,7 @@ use Rattle.command.specs.Commands.{entry, kindIn}
 use Rattle.command.specs.Findings.{findsIn}
 use Rattle.command.proofs.Rules.{onMachine, turn-found}
 use Rattle.effect.specs.declared.Marks.{Marks}
-use Rattle.effect.specs.Effects.{Scene, scene, Machine, screenAfter, definedAfter, cursorAfter, marksAfter, done}
+use Rattle.effect.specs.Effects.{Scene, Machine, screenAfter, definedAfter, cursorAfter, marksAfter, done}
 use Rattle.run.specs.Turns.{Ready}
 use Rattle.run.specs.Run.{knownOf, table, turnIn, stamped, RingOutcome, left, runWords, fitting, runIn}
 use Rattle.run.proofs.Laws.{next-says}
@@ -49,7 +49,7 @@ use Rattle.device.specs.declared.Condition.{Condition}
 use Rattle.device.specs.declared.Condition.the-variants.{Idle, Running, Faulted}
 use Rattle.device.specs.declared.Device.{Device}
 use Rattle.device.specs.Device.{memoryOf, pixelsOf, widthOf, heightOf, conditionGood, definedGood, modeFits, wellFormed}
-use Rattle.device_run.specs.Run.{Lent, RunOutcome, lentGood, conditionAfter, settled, machineOf, ran, refusedRun, runBy, runOf}
+use Rattle.device_run.specs.Run.{Lent, RunOutcome, lentGood, conditionAfter, settled, machineOf, sceneFor, ran, refusedRun, runBy, runOf}
 use Rattle.device.proofs.Laws.{well-formed}
 use Rattle.device.proofs.Kept.{well-formed-of}
 
@@ -376,7 +376,7 @@ module _ (d : Device) (l : Lent) where
     pub running : d .condition ≡ Running g
 
   abbrev pub ranIn : ℕ → Ring → RingOutcome
-  ranIn budget g = runIn (scene (widthOf d) (heightOf d) (l .framebuffer)) g budget (l .ring) (machineOf d l)
+  ranIn budget g = runIn (sceneFor d l) g budget (l .ring) (machineOf d l)
 
   by-condition : (P : RunOutcome → Type 0) (budget : ℕ) (c : Condition) → d .condition ≡ c
       → ((a : ℕ) → Refusal a → P (refusedRun d l a))
@@ -420,10 +420,10 @@ module _ (d : Device) (l : Lent) where
     -- and so is the one that it leaves
     pub left-sound : (budget : ℕ) → Sound (widthOf d * heightOf d) (l .screen) (ranIn budget g .machine)
     left-sound budget =
-        run-sound (scene (widthOf d) (heightOf d) (l .framebuffer)) g budget (l .ring) (machineOf d l) (l .screen) (well-formed d (o .is-well-formed) .width-low) open-sound
+        run-sound (sceneFor d l) g budget (l .ring) (machineOf d l) (l .screen) (well-formed d (o .is-well-formed) .width-low) open-sound
 
     pub left-stays : (budget : ℕ) → Stays g (l .ring) (ranIn budget g)
-    left-stays budget = run-stays (scene (widthOf d) (heightOf d) (l .framebuffer)) g budget (l .ring) (machineOf d l)
+    left-stays budget = run-stays (sceneFor d l) g budget (l .ring) (machineOf d l)
 
     -- and the remembered ring good
     pub open-ring : placed g (memoryOf d / 4) ≡ true

@@ -29,8 +29,7 @@ use Rattle.device.specs.Making.{madeOf}
 use Rattle.register_read.specs.Registers.{readBy, readOf}
 use Rattle.register_write.specs.Registers.{written}
 use Rattle.adapter.specs.Picture.{cursorOver, lengthsGood, pictureOf}
-use Rattle.device_run.specs.Run.{Lent, RunOutcome, machineOf, refusedRun, ran, runOf}
-use Rattle.effect.specs.Effects.{scene}
+use Rattle.device_run.specs.Run.{Lent, RunOutcome, machineOf, sceneFor, refusedRun, ran, runOf}
 use Rattle.device.proofs.Laws.{well-formed}
 use Rattle.register_write.proofs.Kept.{sizes-kept, marks-kept}
 use Rattle.register_write.proofs.Refusals.{Why, no-register, read-only, bad-value, wrong-length, ring-refused, is-taken, why, ill-formed-write}
@@ -296,7 +295,7 @@ run-bounded budget w =
     let m = w .lent in
     by-run d m (λ (o : RunOutcome). o .count ≤ budget) budget
     (λ a r. omega arith)
-    (λ g o. run-count (scene (widthOf d) (heightOf d) (m .framebuffer)) g budget (m .ring) (machineOf d m))
+    (λ g o. run-count (sceneFor d m) g budget (m .ring) (machineOf d m))
 
 -- "The run changes no other ring word, and none if it consumed nothing."
 pub run-untouched : (budget : ℕ) (w : World) → getD (perform (run budget) w .values) 0 0 ≡ 0 → perform (run budget) w .world .lent .ring ≡ w .lent .ring

@@ -8,18 +8,16 @@ use lib.Dec.{eqb}
 use lib.ListN.{length}
 use Rattle.execution.specs.declared.Cause.{Cause}
 use Rattle.execution.specs.Straight.{Turn, Line}
-use Rattle.execution.specs.Table.{turnOf}
 use Rattle.execution.specs.Claim.{Op, Event, replyNumber, counted, fed, Demand3}
 use Rattle.execution.specs.Claim as C
 use Rattle.ring.specs.declared.Ring.{Ring}
 use Rattle.ring.specs.Acceptance.{minOf, maxOf, nextOf, stopOf, usable}
 use Rattle.ring.specs.Waiting.{after, waiting, carried}
-use Rattle.effect.specs.Effects.{Scene, scene, Machine}
-use Rattle.run.specs.Run.{table}
+use Rattle.effect.specs.Effects.{Scene, Machine}
 use Rattle.device.specs.declared.Condition.{Condition}
 use Rattle.device.specs.declared.Condition.the-variants.{Idle, Running, Faulted}
-use Rattle.device.specs.Device.{widthOf, heightOf, enabledOf, configuredOf, conditionOf, modeFits, wellFormed}
-use Rattle.device_run.specs.Run.{lentGood, machineOf}
+use Rattle.device.specs.Device.{enabledOf, configuredOf, conditionOf, modeFits, wellFormed}
+use Rattle.device_run.specs.Run.{lentGood, machineOf, sceneFor, turnFor}
 use Rattle.history.specs.Calls.{World, Call, append, run, CallOutcome, History}
 
 -- "Its ring was last accepted with NEXT_CMD = STOP and since then nothing was written to it and no run made, refusals aside." Of that the state shows: no
@@ -42,10 +40,10 @@ isStart w =
 
 -- "uses its framebuffer, mode, MIN and MAX": document 01's table and turn, as of the start.
 abbrev pub sceneOf : World → Scene
-sceneOf w = scene (widthOf (w .device)) (heightOf (w .device)) (w .lent .framebuffer)
+sceneOf w = sceneFor (w .device) (w .lent)
 
 abbrev pub worldTurn : World → Ring → Machine → List ℕ → Turn Machine
-worldTurn w g = turnOf (carried (g .min) (g .max)) (table (sceneOf w))
+worldTurn w g = turnFor (w .device) (w .lent) g
 
 -- "The words left are those waiting": from ring word 3 up to ring word 2.
 abbrev pub worldWords : Ring → World → List ℕ

@@ -30,7 +30,7 @@ use Rattle.register.specs.declared.Register.{Register}
 use Rattle.register.specs.declared.Register.the-variants.{Writes, Reads, Absent}
 use Rattle.register.specs.Numbers.{registerOf}
 use Rattle.command.specs.declared.Action.{Action}
-use Rattle.effect.specs.Effects.{scene, Machine, done}
+use Rattle.effect.specs.Effects.{Machine, done}
 use Rattle.run.specs.Run.{knownOf, runIn}
 use Rattle.device.specs.declared.Condition.the-variants.{Faulted}
 use Rattle.device.specs.declared.Device.{Device}
@@ -41,7 +41,7 @@ use Rattle.register_read.specs.Answers.{Reading}
 use Rattle.adapter.specs.Picture.{Pictured, pictureOf}
 use Rattle.register_read.specs.Registers.{readBy, readOf}
 use Rattle.register_write.specs.Registers.{written}
-use Rattle.device_run.specs.Run.{Lent, RunOutcome, machineOf, ran, refusedRun, runBy, runOf}
+use Rattle.device_run.specs.Run.{Lent, RunOutcome, machineOf, sceneFor, lineOf, turnFor, ran, refusedRun, runBy, runOf}
 use Rattle.device.proofs.Kept.{make-refused}
 use Rattle.register_write.proofs.Refusals as WriteRefusals
 use Rattle.register_read.proofs.Refusals as ReadRefusals
@@ -49,7 +49,7 @@ use Rattle.adapter.proofs.Refusals as PictureRefusals
 use Rattle.register_write.proofs.Refusals.{no-register, read-only, bad-value, wrong-length, ring-refused, is-taken}
 use Rattle.device_run.proofs.RunLaws.{run-by}
 use Rattle.refusals.specs.Refusing.{isRefusal, Sizes, Make34, Write30, Write31, Write32, Write20, Write33, Write0, Read30}
-use Rattle.refusals.specs.Refusing.{Run20, Run22, Run21, Run24, Run23, Starts, NextUsable, lineOf, turnFor, PictureLent, Picture20, Picture24, Append1}
+use Rattle.refusals.specs.Refusing.{Run20, Run22, Run21, Run24, Run23, Starts, NextUsable, PictureLent, Picture20, Picture24, Append1}
 use Rattle.refusals.specs.Refusing.{Turn0, Turn10, HeadMissing, HeadBad, Turn12, WordsMissing, OperandBad, Executes}
 use Rattle.refusals.proofs.Reasons.{fails, sizes-good, ring-usable, not-usable, picture-lent, next-usable, ranged}
 use Rattle.refusals.proofs.Reasons.{stops-2, run-stops, run-next-unusable-count, fault-after, ring-carries}
@@ -234,7 +234,7 @@ module _ (d : Device) (l : Lent) (budget : ℕ) where
   -- A run that starts, on the ring g.
   module _ (m : wellFormed d ≡ true) (g : Ring) (s : Starts d l g) where
     -- it is `run/Run.runIn`: what it leaves is said there
-    pub run-starts : run ≡ ran d l (runIn (scene (widthOf d) (heightOf d) (l .framebuffer)) g budget (l .ring) (machineOf d l))
+    pub run-starts : run ≡ ran d l (runIn (sceneFor d l) g budget (l .ring) (machineOf d l))
     run-starts = start d l m g budget s
 
     -- it answers 0, 1, 2, or 10 to 13
@@ -283,7 +283,7 @@ module _ (d : Device) (l : Lent) (g : Ring) (m : Machine) (w : List ℕ) where
 
   -- what an action does to the machine
   abbrev does : Action → List ℕ → Machine → Machine
-  does = done (scene (widthOf d) (heightOf d) (l .framebuffer))
+  does = done (sceneFor d l)
 
   -- "NEXT_CMD = STOP: 0."
   pub turn-0 : (turn ≡ ends Drained) ↔ Turn0 w

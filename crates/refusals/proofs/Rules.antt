@@ -20,14 +20,13 @@ use Rattle.ring.specs.declared.Ring.{Ring}
 use Rattle.command.specs.declared.Action.{Action}
 use Rattle.command.specs.Commands.{Known, entry, sizeBy, kindIn, commands}
 use Rattle.command.proofs.Rules.{Ruled, foreign, no-head, bad-head, long, no-rest, bad, well, ruled, by-rule, turn-none}
-use Rattle.effect.specs.Effects.{scene}
 use Rattle.run.specs.Run.{RingOutcome, fitting, runIn}
 use Rattle.device.specs.declared.Condition.{Condition}
 use Rattle.device.specs.declared.Condition.the-variants.{Idle, Running, Faulted}
 use Rattle.device.specs.declared.Device.{Device}
 use Rattle.device.specs.Device.{pixelsOf, widthOf, heightOf, enabledOf, configuredOf, conditionOf, modeFits, wellFormed}
 use Rattle.register_write.specs.Registers.{written}
-use Rattle.device_run.specs.Run.{Lent, RunOutcome, lentGood, machineOf, ran, refusedRun, runBy, runOf}
+use Rattle.device_run.specs.Run.{Lent, RunOutcome, lentGood, machineOf, sceneFor, ran, refusedRun, runBy, runOf}
 use Rattle.register_write.proofs.Refusals.{Why, no-register, read-only, bad-value, wrong-length, ring-refused, is-taken, why}
 use Rattle.device_run.proofs.RunLaws.{run-by}
 use Rattle.refusals.specs.Refusing.{isRefusal, Write30, Write31, Write32, Write20, Write33, Write0, RunLent, Run20, Run22, Run21, Run24, Run23, Starts}
@@ -78,7 +77,7 @@ module _ (d : Device) (l : Lent) where
 
   -- what a run that starts does
   abbrev pub started : Ring → ℕ → RingOutcome
-  started g budget = runIn (scene (widthOf d) (heightOf d) (l .framebuffer)) g budget (l .ring) (machineOf d l)
+  started g budget = runIn (sceneFor d l) g budget (l .ring) (machineOf d l)
 
   module _ (m : wellFormed d ≡ true) (g : Ring) (budget : ℕ) (s : Starts d l g) where
     pub start : runOf d l budget ≡ ran d l (started g budget)

@@ -8,12 +8,9 @@ use Prim.Native.Nat.{ℕ, _*_, _/_, _%_, _≤_, _<_}
 use lib.Dec.{leb}
 use lib.ListN.{length}
 use Rattle.execution.specs.declared.Cause.{Cause}
-use Rattle.execution.specs.Straight.{Turn, Line}
-use Rattle.execution.specs.Table.{turnOf}
 use Rattle.ring.specs.declared.Ring.{Ring}
 use Rattle.ring.specs.Acceptance.{minOf, maxOf, nextOf, stopOf}
 use Rattle.ring.specs.Append.{movedOn}
-use Rattle.ring.specs.Waiting.{waiting, carried}
 use Rattle.ring.proofs.Laws.{Usable}
 use Rattle.register.specs.declared.Register.the-variants.{Writes, Reads, Absent}
 use Rattle.register.specs.declared.ReadOnly.{ReadOnly}
@@ -21,12 +18,10 @@ use Rattle.register.specs.declared.Writable.{Writable}
 use Rattle.register.specs.declared.Writable.the-variants.{Id, Enable, Width, Height, ConfigDone, Sync, GuestId, CursorId, CursorX, CursorY, CursorOn}
 use Rattle.register.specs.Numbers.{registerOf}
 use Rattle.command.specs.Commands.{Known, entry, sizeBy, kindIn}
-use Rattle.effect.specs.Effects.{scene, Machine}
-use Rattle.run.specs.Run.{table}
 use Rattle.device.specs.declared.Condition.the-variants.{Running, Faulted}
 use Rattle.device.specs.declared.Device.{Device}
 use Rattle.device.specs.Device.{memoryOf, pixelsOf, widthOf, heightOf, enabledOf, configuredOf, conditionOf}
-use Rattle.device_run.specs.Run.{Lent, machineOf}
+use Rattle.device_run.specs.Run.{Lent}
 
 -- "Answers 20 to 34 change nothing"
 unfoldable pub isRefusal : ℕ → Bool
@@ -133,15 +128,6 @@ module _ (d : Device) (l : Lent) where
 -- "NEXT_CMD not a multiple of 4 or outside the ring: 13." MIN and MAX are remembered in words, NEXT_CMD is in bytes.
 abbrev pub NextUsable : Ring → ℕ → Type 0
 NextUsable g next = (next % 4 ≡ 0) × (4 * g .min ≤ next) × (next < 4 * g .max)
-
--- the words that wait from STOP up to a usable NEXT_CMD, with the machine that they work on
-abbrev pub lineOf : Device → Lent → Ring → Line Machine
-lineOf d l g =
-    record { words = waiting (l .ring) (g .min) (g .max) (g .stop) (nextOf (l .ring) / 4); machine = machineOf d l }
-
--- what a turn finds in the words that wait
-abbrev pub turnFor : Device → Lent → Ring → Machine → List ℕ → Turn Machine
-turnFor d l g = turnOf (carried (g .min) (g .max)) (table (scene (widthOf d) (heightOf d) (l .framebuffer)))
 
 -- ---- one turn, "in this order", on the words w that wait in a ring that carries cap words: by their row of document 01's table, `entry (kindIn w)`
 
