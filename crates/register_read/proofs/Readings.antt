@@ -8,7 +8,7 @@ use native.Mathlib.Omega.{arith}
 use lib.Dec.{eqb}
 use lib.ListN.{getD, set, List·getD-map}
 use lib.Seq.{getD-set-other}
-use borrow.Author.Tests.{eqb-true, eqb-false}
+use borrow.Author.Tests.{eqb-true, eqb-false, ne-eqb}
 use borrow.Table.Steps.{cases}
 use Rattle.geometry.proofs.Tests.{neither}
 use Rattle.register.specs.declared.Register.{Register}
@@ -113,6 +113,28 @@ unfolding readOf
 reads-stay d ring i v j m apart =
     rw (written-well-formed d ring i v m, m)
     (part-kept (λ (x : Device). readBy x (registerOf j)) d ring i v (λ w q e. reads-changed d e w (registerOf j) (apart w q)))
+
+-- the value of a register is changed by a write to it alone
+
+value-changed : (d e : Device) (w r : Writable) → is w r ≡ false → writableValue (changedBy w d e .registers) r ≡ writableValue (d .registers) r
+unfolding writableValue
+value-changed d e w Id f = rw f
+value-changed d e w Enable f = rw f
+value-changed d e w Width f = rw f
+value-changed d e w Height f = rw f
+value-changed d e w ConfigDone f = rw f
+value-changed d e w Sync f = refl
+value-changed d e w GuestId f = rw f
+value-changed d e w CursorId f = rw f
+value-changed d e w CursorX f = rw f
+value-changed d e w CursorY f = rw f
+value-changed d e w CursorOn f = rw f
+
+pub value-kept : (d : Device) (ring : List ℕ) (i v : ℕ) (r : Writable) → (registerOf i ≡ Writes r → ⊥)
+    → writableValue (written d ring i v .device .registers) r ≡ writableValue (d .registers) r
+value-kept d ring i v r n =
+    part-kept (λ (x : Device). writableValue (x .registers) r) d ring i v
+    (λ w q e. value-changed d e w r (ne-eqb _ _ (λ s. n (q ∙ ap Writes (same-number w r s)))))
 
 -- a value that is read back once it is taken: not that of SYNC, and of ID one of the three
 abbrev pub stored : Writable → ℕ → Bool

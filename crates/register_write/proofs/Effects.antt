@@ -151,6 +151,22 @@ pub sync-else : (d : Device) (v : ℕ) → running (d .condition) && d .register
 unfolding effectOf synced
 sync-else d v e = rw e
 
+-- BUSY stays but for SYNC, and for 0 to ENABLE or CONFIG_DONE
+pub effect-busy : (d : Device) (v : ℕ) (w : Writable) → inRange w v ≡ true → ringAsked w v ≡ false
+    → (w ≡ Sync → ⊥) → (w ≡ Enable → v ≡ 0 → ⊥) → (w ≡ ConfigDone → v ≡ 0 → ⊥) → effectOf d v w .busy ≡ d .busy
+unfolding inRange ringAsked effectOf idWritten enableWritten
+effect-busy d v Id r a s e c = refl
+effect-busy d v Enable r a s e c = rw (ne-eqb v 0 (e refl))
+effect-busy d v Width r a s e c = refl
+effect-busy d v Height r a s e c = refl
+effect-busy d v ConfigDone r a s e c = absurd (c refl (let n : v ≢ 1 = eqb-false v 1 a in omega (arith, leb-true v 1 r)))
+effect-busy d v Sync r a s e c = absurd (s refl)
+effect-busy d v GuestId r a s e c = refl
+effect-busy d v CursorId r a s e c = refl
+effect-busy d v CursorX r a s e c = refl
+effect-busy d v CursorY r a s e c = refl
+effect-busy d v CursorOn r a s e c = refl
+
 pub guest-id-stored : (d : Device) (v : ℕ) → effectOf d v GuestId .registers .guest ≡ v
 unfolding effectOf
 guest-id-stored d v = refl

@@ -1,5 +1,5 @@
--- How a register write goes, whichever the register, and what it keeps: a well-formed device stays so, and no write changes its sizes, its
--- fence or its defined cursor.
+-- How a register write goes, whichever the register, and what it keeps: a well-formed device stays so, no write changes its sizes, its fence or its
+-- defined cursor, and only three can change BUSY.
 -- Assumes nothing.
 use mathlib.Core.Path.{_≡_, refl, ap, _∙_}
 use mathlib.Core.Bool.{true, false, false≢true}
@@ -24,7 +24,7 @@ use Rattle.device.specs.Device.{memoryOf, conditionGood, wellFormed}
 use Rattle.device.proofs.Kept.{parts}
 use Rattle.register_write.specs.Answers.{WriteOutcome}
 use Rattle.register_write.specs.Registers.{taken, refused, inRange, effectOf, ringAsked, remembering, acceptedWritten, ringWritten, writableWritten, writtenBy, written}
-use Rattle.register_write.proofs.Effects.{changedBy, only-own, effect-well-formed}
+use Rattle.register_write.proofs.Effects.{changedBy, only-own, effect-well-formed, effect-busy}
 
 -- ---- how a write goes
 
@@ -152,3 +152,19 @@ sizes-kept d ring index v = part-kept (λ (e : Device). e .sizes) d ring index v
 
 pub marks-kept : (d : Device) (ring : List ℕ) (index v : ℕ) → written d ring index v .device .marks ≡ d .marks
 marks-kept d ring index v = part-kept (λ (e : Device). e .marks) d ring index v (λ w q e. refl)
+
+-- "SYNC sets BUSY to 1", "Writing 0 to ENABLE or CONFIG_DONE clears BUSY": no other write changes it
+
+went-busy : (d : Device) (ring : List ℕ) (v : ℕ) (w : Writable) {o : WriteOutcome} → Went d ring v w o
+    → (w ≡ Sync → ⊥) → (w ≡ Enable → v ≡ 0 → ⊥) → (w ≡ ConfigDone → v ≡ 0 → ⊥) → o .device .busy ≡ d .busy
+went-busy d ring v w (outside f) s e c = refl
+went-busy d ring v w (effected r n) s e c = effect-busy d v w r n s e c
+went-busy d ring v w (other-length k o n) s e c = refl
+went-busy d ring v w (unusable k o n u) s e c = refl
+went-busy d ring v w (accepts k o n u) s e c = refl
+
+pub busy-kept : (d : Device) (ring : List ℕ) (index v : ℕ) → (registerOf index ≡ Writes Sync → ⊥) → (registerOf index ≡ Writes Enable → v ≡ 0 → ⊥)
+    → (registerOf index ≡ Writes ConfigDone → v ≡ 0 → ⊥) → written d ring index v .device .busy ≡ d .busy
+busy-kept d ring index v s e c =
+    by-written (λ (o : WriteOutcome). o .device .busy ≡ d .busy) d ring v (λ a n. refl) index
+    (λ w q. went-busy d ring v w (went d ring v w) (λ r. s (q ∙ ap Writes r)) (λ r. e (q ∙ ap Writes r)) (λ r. c (q ∙ ap Writes r)))
