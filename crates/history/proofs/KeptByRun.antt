@@ -1,16 +1,16 @@
--- What a run keeps: a device stays well-formed, lent memories keep their lengths, every ring word but word 3 stays; and no run that is not refused
--- answers 23.
+-- What a run keeps: a device stays well-formed, lent memories keep their lengths, every ring word but word 3 stays, and every cursor word that no
+-- executed command fills; and no run that is not refused answers 23.
 -- Assumes nothing.
 use mathlib.Core.Path.{_≡_, refl, sym, ap, _∙_}
 use mathlib.Core.Bool.{Bool, true, false, _&&_, true≢false}
 use mathlib.Core.Option.{Option, none, some}
-use mathlib.Core.List.{List, [], _∷_}
-use Prim.Native.Nat.{ℕ, zero, suc, _+_, _-_, _*_, _/_, _≤_, _<_}
-use native.Mathlib.Nat.{mul-le-mul, mul-comm, le-div-iff-mul-le}
+use mathlib.Core.List.{List, [], _∷_, _++_}
+use Prim.Native.Nat.{ℕ, zero, suc, _+_, _-_, _*_, _/_, _≤_, _<_, max}
+use native.Mathlib.Nat.{mul-le-mul, mul-comm, le-div-iff-mul-le, le-max-left, le-max-right}
 use native.Mathlib.Omega.{arith}
 use lib.Dec.{eqb, ltb}
-use lib.ListN.{length, getD, take, length-set, length-take, length-drop, length-append, List·getD-eq-default}
-use lib.Seq.{getD-set-other}
+use lib.ListN.{length, getD, take, drop, length-set, length-take, length-drop, length-append, List·getD-eq-default}
+use lib.Seq.{getD-set-other, getD-append-add, getD-drop}
 use borrow.Author.Tests.{eqb-true, ltb-true, ltb-false, eq-eqb, le-ltb}
 use borrow.Table.Steps.{cases}
 use Rattle.geometry.proofs.Tests.{both, by-cond}
@@ -45,6 +45,7 @@ use Rattle.run.specs.Turns.{Ready}
 use Rattle.run.specs.Run.{knownOf, table, turnIn, stamped, RingOutcome, left, runWords, fitting, runIn}
 use Rattle.run.proofs.Laws.{next-says}
 use Rattle.run.proofs.Found.{Found, found}
+use Rattle.run.proofs.RunLaws.{turn-kept}
 use Rattle.device.specs.declared.Condition.{Condition}
 use Rattle.device.specs.declared.Condition.the-variants.{Idle, Running, Faulted}
 use Rattle.device.specs.declared.Device.{Device}
@@ -52,6 +53,7 @@ use Rattle.device.specs.Device.{memoryOf, pixelsOf, widthOf, heightOf, conditio
 use Rattle.device_run.specs.Run.{Lent, RunOutcome, lentGood, conditionAfter, settled, machineOf, sceneFor, ran, refusedRun, runBy, runOf}
 use Rattle.device.proofs.Laws.{well-formed}
 use Rattle.device.proofs.Kept.{well-formed-of}
+use Rattle.history.specs.Harm.{pixelsBy, largestCursor}
 
 -- ---- a run of a line, turn by turn
 
@@ -106,6 +108,16 @@ module _ {S : Type 0} (turn : S → List ℕ → Turn S) where
       go (ends e) r ih = rw (runs-ends turn b a e r) (omega arith)
       go (exec n s) r ih = rw (runs-exec turn b a n s r) (omega (arith, ih n s))
 
+  -- a run that consumed nothing leaves the line
+  pub runs-nothing : (b : ℕ) (a : Line S) → runs turn b a .count ≡ 0 → runs turn b a .line ≡ a
+  unfolding runs
+  runs-nothing zero a z = refl
+  runs-nothing (suc b) a z = go (next turn a) refl
+    where
+      go : (t : Turn S) → next turn a ≡ t → runs turn (suc b) a .line ≡ a
+      go (ends e) r = rw (runs-ends turn b a e r)
+      go (exec n s) r = let y : suc (runs turn b (beyond a n s) .count) ≡ 0 = rw (runs-exec turn b a n s r) at z in absurd (omega arith)
+
   -- where every turn ends, a run leaves the line
   pub runs-still : ((s : S) (w : List ℕ) (n : ℕ) (t : S) → turn s w ≡ exec n t → ⊥) → (b : ℕ) (a : Line S) → runs turn b a .line ≡ a
   unfolding runs
@@ -117,6 +129,24 @@ module _ {S : Type 0} (turn : S → List ℕ → Turn S) where
       go (exec n s) r = absurd (never (a .machine) (a .words) n s r)
 
 -- ---- what an executed command keeps
+
+-- an executed turn found a command at the front of the words, and did its action with the command's own words
+record Did (s : Scene) (m t : Machine) (w : List ℕ) (n : ℕ) : Type 0 where
+  action : Action
+  is-found : Found action n w
+  left-by : t ≡ done s action (take n w) m
+
+exec-did : (s : Scene) (cap : ℕ) (m t : Machine) (w : List ℕ) (n : ℕ) → turnOf cap (table s) m w ≡ exec n t → Did s m t w n
+unfolding turnOf
+exec-did s cap m t [] n r = absurd (no-exec r)
+exec-did s cap m t (x ∷ w) n r = go (findsIn tt cap (x ∷ w)) refl (sym (turn-found knownOf (done s) cap m (x ∷ w)) ∙ r)
+  where
+    go : (f : Turn (Option Action)) → findsIn tt cap (x ∷ w) ≡ f → onMachine (done s) m (x ∷ w) f ≡ exec n t → Did s m t (x ∷ w) n
+    go (ends e) q z = absurd (no-exec z)
+    go (exec k none) q z = absurd (no-exec z)
+    go (exec k (some a)) q z =
+        let size : k ≡ n = cc in
+        record { action = a; is-found = rw size at (found cap (x ∷ w) a k (omega arith) q); left-by = rw (← size) (cc) }
 
 -- a cursor that a turn defines is good
 abbrev GoodAction : Action → Type 0
@@ -236,20 +266,9 @@ module _ (s : Scene) (screen : List ℕ) (wide : 0 < s .width) where
     defined = defined-kept a (m .marks) (good-found a n w f) (h .defined);
   }
 
-  sound-found : (cap : ℕ) (m t : Machine) (w : List ℕ) (n : ℕ) (f : Turn (Option Action)) → 1 ≤ length w → findsIn tt cap w ≡ f
-      → onMachine (done s) m w f ≡ exec n t → Right m → Right t
-  sound-found cap m t w n (ends e) l q r h = absurd (no-exec r)
-  sound-found cap m t w n (exec k none) l q r h = absurd (no-exec r)
-  sound-found cap m t w n (exec k (some a)) l q r h =
-      let same : done s a (take k w) m ≡ t = cc in
-      rw (← same) (sound-done m a k w (found cap w a k l q) h)
-
   -- an executed turn keeps a sound machine
   pub sound-exec : (cap : ℕ) (m t : Machine) (w : List ℕ) (n : ℕ) → turnOf cap (table s) m w ≡ exec n t → Right m → Right t
-  unfolding turnOf
-  sound-exec cap m t [] n r h = absurd (no-exec r)
-  sound-exec cap m t (x ∷ w) n r h =
-      sound-found cap m t (x ∷ w) n _ (omega arith) refl (sym (turn-found knownOf (done s) cap m (x ∷ w)) ∙ r) h
+  sound-exec cap m t w n r h = let e = exec-did s cap m t w n r in rw (e .left-by) (sound-done m (e .action) n w (e .is-found) h)
 
   -- and so does one of a run
   pub sound-turn : (g : Ring) (after : ℕ) (m t : Machine) (w : List ℕ) (n : ℕ) → turnIn s g after m w ≡ exec n t → Right m → Right t
@@ -263,6 +282,66 @@ module _ (s : Scene) (screen : List ℕ) (wide : 0 < s .width) where
 never-next : (s : Scene) (g : Ring) (after : ℕ) → nextGood g after ≡ false → (m : Machine) (w : List ℕ) (n : ℕ) (t : Machine) → turnIn s g after m w ≡ exec n t → ⊥
 unfolding turnIn unless
 never-next s g after f m w n t q = no-exec (rw f at q)
+
+-- ---- the cursor words that a run fills
+
+-- "the rest stay"
+cursor-beyond : (a : Action) (w cursor : List ℕ) (i : ℕ) → Ready a (length w) → pixelsBy a ≤ i → getD (cursorAfter a w cursor) i 0 ≡ getD cursor i 0
+unfolding cursorAfter
+cursor-beyond (A.Update r) w cursor i h l = refl
+cursor-beyond (A.Fill r colour rop) w cursor i h l = refl
+cursor-beyond (A.Copy from r rop) w cursor i h l = refl
+cursor-beyond (A.Define s) w cursor i h l =
+    let n : ℕ = s .w * s .h in
+    let pixels : List ℕ = take n (drop 6 w) in
+    let there : 6 + n ≤ length w = h .0 in
+    let size : length pixels ≡ n = rw (length-take, length-drop 6 w) (omega arith) in
+    let place : length pixels + (i - n) ≡ i = omega arith in
+    let back : n + (i - n) ≡ i = omega arith in
+    ap (λ k. getD (pixels ++ drop n cursor) k 0) (sym place)
+    ∙ getD-append-add pixels (drop n cursor) (i - n) 0
+    ∙ getD-drop n cursor (i - n) 0
+    ∙ ap (λ k. getD cursor k 0) back
+cursor-beyond (A.Fence number) w cursor i h l = refl
+cursor-beyond A.Nothing w cursor i h l = refl
+
+module _ (s : Scene) (cap i : ℕ) where
+  abbrev turns : Machine → List ℕ → Turn Machine
+  turns = turnOf cap (table s)
+
+  exec-filled : (m t : Machine) (w : List ℕ) (n : ℕ) → turns m w ≡ exec n t → pixelsBy (entry (kindIn w) .action w) ≤ i
+      → getD (t .cursor) i 0 ≡ getD (m .cursor) i 0
+  unfolding done
+  exec-filled m t w n r l =
+      let e = exec-did s cap m t w n r in
+      let f = e .is-found in
+      rw (e .left-by)
+      (ap (λ (c : List ℕ). getD c i 0) (f .own (m .cursor))
+      ∙ cursor-beyond (e .action) w (m .cursor) i (f .ready) (rw (f .action) at l))
+
+  largest-exec : (k : ℕ) (a : Line Machine) (n : ℕ) (t : Machine) → next turns a ≡ exec n t
+      → largestCursor turns (suc k) a ≡ max (pixelsBy (entry (kindIn (a .words)) .action (a .words))) (largestCursor turns k (beyond a n t))
+  unfolding largestCursor
+  largest-exec k a n t q = rw (q, largestCursor)
+
+  runs-filled : (b : ℕ) (a : Line Machine) → largestCursor turns (runs turns b a .count) a ≤ i
+      → getD (runs turns b a .line .machine .cursor) i 0 ≡ getD (a .machine .cursor) i 0
+  unfolding runs
+  runs-filled zero a l = refl
+  runs-filled (suc b) a l = go (next turns a) refl (λ n t. runs-filled b (beyond a n t))
+    where
+      go : (f : Turn Machine) → next turns a ≡ f
+          → ((n : ℕ) (t : Machine) → largestCursor turns (runs turns b (beyond a n t) .count) (beyond a n t) ≤ i
+          → getD (runs turns b (beyond a n t) .line .machine .cursor) i 0 ≡ getD (t .cursor) i 0)
+          → getD (runs turns (suc b) a .line .machine .cursor) i 0 ≡ getD (a .machine .cursor) i 0
+      go (ends e) q ih = rw (runs-ends turns b a e q)
+      go (exec n t) q ih =
+          let k = runs turns b (beyond a n t) .count in
+          let own = pixelsBy (entry (kindIn (a .words)) .action (a .words)) in
+          let rest = largestCursor turns k (beyond a n t) in
+          let most : max own rest ≤ i = rw (runs-exec turns b a n t q, largest-exec k a n t q) at l in
+          rw (runs-exec turns b a n t q)
+          (ih n t (omega (arith, le-max-right own rest)) ∙ exec-filled (a .machine) t (a .words) n q (omega (arith, le-max-left own rest)))
 
 -- ---- a run in a ring memory
 
@@ -346,6 +425,28 @@ module _ (s : Scene) (g : Ring) (budget : ℕ) (ring : List ℕ) (m : Machine) w
       cases (fitting g (length ring) (length (m .cursor)))
       (λ t. rw t (runs-count (turnIn s g (nextOf ring)) budget (record { words = waits; machine = m })))
       (λ f. rw f (omega arith))
+
+  -- a run that consumed nothing leaves the machine
+  pub run-nothing : runIn s g budget ring m .count ≡ 0 → runIn s g budget ring m .machine ≡ m
+  unfolding runIn runWords left
+  run-nothing =
+      cases (fitting g (length ring) (length (m .cursor)))
+      (λ t. rw t (λ z. ap (λ (a : Line Machine). a .machine) (runs-nothing (turnIn s g (nextOf ring)) budget (record { words = waits; machine = m }) z)))
+      (λ f. rw f (λ z. refl))
+
+  -- and every run each cursor word that none of its commands fills
+  pub run-filled : (i : ℕ)
+      → largestCursor (turnOf (carried (g .min) (g .max)) (table s)) (runIn s g budget ring m .count) (record { words = waits; machine = m }) ≤ i
+      → getD (runIn s g budget ring m .machine .cursor) i 0 ≡ getD (m .cursor) i 0
+  unfolding runIn runWords left
+  run-filled i =
+      let a : Line Machine = record { words = waits; machine = m } in
+      cases (fitting g (length ring) (length (m .cursor)))
+      (λ t. cases (nextGood g (nextOf ring))
+      (λ y. rw (t, turn-kept s g (nextOf ring) y) (runs-filled s (carried (g .min) (g .max)) i budget a))
+      (λ f. rw t (λ l. ap (λ (x : Line Machine). getD (x .machine .cursor) i 0)
+      (runs-still (turnIn s g (nextOf ring)) (never-next s g (nextOf ring) f) budget a))))
+      (λ f. rw f (λ l. refl))
 
   -- a sound machine stays sound
   pub run-sound : (screen : List ℕ) → 0 < s .width → Sound (s .width * s .rows) screen m → Sound (s .width * s .rows) screen (runIn s g budget ring m .machine)

@@ -1,9 +1,9 @@
 -- Demand 1: no call does harm, whatever the device, the lent memories and the calls before; and every history keeps a device well-formed.
 -- Assumes nothing.
 use mathlib.Core.Path.{_≡_, refl, sym, ap, _∙_}
-use mathlib.Core.Bool.{true}
+use mathlib.Core.Bool.{Bool, true, false}
 use mathlib.Core.List.{List, [], _∷_}
-use mathlib.Core.Logic.{inl, inr}
+use mathlib.Core.Logic.{_⊎_, inl, inr}
 use Prim.Native.Nat.{ℕ, zero, suc, _*_, _≤_, _<_}
 use native.Mathlib.Omega.{arith}
 use lib.Dec.{eqb, ltb}
@@ -18,25 +18,29 @@ use Rattle.ring.specs.Append.{canAppend, appendOf}
 use Rattle.ring.proofs.AppendLaws.{length-append-to, append-elsewhere}
 use Rattle.register.specs.declared.Register.{Register}
 use Rattle.register.specs.declared.Register.the-variants.{Writes, Reads, Absent}
-use Rattle.register.specs.declared.Writable.the-variants.{ConfigDone}
+use Rattle.register.specs.declared.Writable.the-variants.{Enable, ConfigDone, Sync, CursorOn}
 use Rattle.register.specs.Numbers.{registerOf}
 use Rattle.picture.specs.declared.Overlay.{Overlay}
 use Rattle.picture.specs.Picture.{composed}
 use Rattle.picture.proofs.Laws.{length-composed, beyond-stays}
+use Rattle.effect.specs.Effects.{Machine}
+use Rattle.device.specs.declared.Condition.{Condition}
+use Rattle.device.specs.declared.Condition.the-variants.{Idle, Running, Faulted}
 use Rattle.device.specs.declared.Device.{Device}
 use Rattle.device.specs.Device.{pixelsOf, widthOf, heightOf, definedOf, sizesGood, modeFits, wellFormed}
 use Rattle.device.specs.Making.{madeOf}
 use Rattle.register_read.specs.Registers.{readBy, readOf}
 use Rattle.register_write.specs.Registers.{written}
 use Rattle.adapter.specs.Picture.{cursorOver, lengthsGood, pictureOf}
-use Rattle.device_run.specs.Run.{Lent, RunOutcome, machineOf, sceneFor, refusedRun, ran, runOf}
+use Rattle.device_run.specs.Run.{Lent, RunOutcome, conditionAfter, busyAfter, machineOf, sceneFor, refusedRun, ran, runOf}
 use Rattle.device.proofs.Laws.{well-formed}
-use Rattle.register_write.proofs.Kept.{sizes-kept, marks-kept}
+use Rattle.register_write.proofs.Kept.{part-kept, sizes-kept, marks-kept, busy-kept}
+use Rattle.register_read.proofs.Readings.{value-kept}
 use Rattle.register_write.proofs.Refusals.{Why, no-register, read-only, bad-value, wrong-length, ring-refused, is-taken, why, ill-formed-write}
-use Rattle.history.proofs.KeptByRun.{NotStanding, Refusal, lent-length, disabled, not-configured, fault-stands, too-large, Open, ranIn, by-run, left-sound, left-stays, open-sound, refused-run, run-count, beyond-rows}
+use Rattle.history.proofs.KeptByRun.{NotStanding, Refusal, lent-length, disabled, not-configured, fault-stands, too-large, Open, ranIn, by-run, left-sound, left-stays, open-sound, refused-run, run-count, run-nothing, run-filled, beyond-rows}
 use Rattle.history.specs.Calls.{World, Call, make, write, read, run, append, picture, offscreen, fence, passed, lend, perform, performAll}
-use Rattle.history.specs.Harm.{row, among, SameBut, InMode, WriteChanges, RunChanges, AppendChanges, PictureChanges, OnlyNamed, Safe, Harmless}
-use Rattle.history.proofs.Starts.{writes-number, refused-stays}
+use Rattle.history.specs.Harm.{row, among, SameBut, InMode, WriteChanges, ConditionChanges, RunChanges, AppendChanges, PictureChanges, OnlyNamed, Safe, Harmless}
+use Rattle.history.proofs.Starts.{writes-number, not-one, condition-kept, refused-stays}
 
 -- ---- answers
 
@@ -118,14 +122,44 @@ picture-answers w =
 pub all-same : {changes : ℕ → Type 0} (l : List ℕ) → SameBut changes l l
 all-same l = record { same-length = refl; elsewhere = λ i h. refl }
 
-write-changes : (index value : ℕ) (w : World) → WriteChanges w (perform (write index value) w .world)
+write-changes : (index value : ℕ) (w : World) → WriteChanges index value w (perform (write index value) w .world)
 unfolding perform
-write-changes index value w = record {
-  sizes = sizes-kept (w .device) (w .lent .ring) index value;
-  marks = marks-kept (w .device) (w .lent .ring) index value;
-  lent = refl;
-  output = refl;
-}
+write-changes index value w =
+    let d = w .device in
+    let ring = w .lent .ring in
+    record {
+      registers = value-kept d ring index value;
+      plane = λ n. part-kept (λ (e : Device). e .plane) d ring index value (λ x q e. rw (not-one index x CursorOn q n));
+      condition = condition-kept d ring value index;
+      busy = λ s e c.
+          busy-kept d ring index value
+          (λ q. s (writes-number index Sync q)) (λ q. e (writes-number index Enable q)) (λ q. c (writes-number index ConfigDone q));
+      sizes = sizes-kept d ring index value;
+      marks = marks-kept d ring index value;
+      lent = refl;
+      output = refl;
+    }
+
+-- a run that is refused leaves the condition
+condition-same : (c : Condition) (a : ℕ) → ConditionChanges c a c
+condition-same Idle a = refl
+condition-same (Running g) a = inl (g, refl, refl, refl)
+condition-same (Faulted c) a = refl
+
+-- one that is not remembers MIN and MAX, or its fault stands
+condition-moves : (a : Answer) (g h : Ring) → h .min ≡ g .min → h .max ≡ g .max → ConditionChanges (Running g) (answerNumber a) (conditionAfter a h)
+unfolding conditionAfter
+condition-moves spent g h e f = inl (h, refl, e, f)
+condition-moves standing g h e f = inl (h, refl, e, f)
+condition-moves (ended Drained) g h e f = inl (h, refl, e, f)
+condition-moves (ended Waiting) g h e f = inl (h, refl, e, f)
+condition-moves (ended (Fault c)) g h e f = inr (c, refl, refl)
+
+busy-moves : (a : Answer) (b : Bool) → (busyAfter a b ≡ b) ⊎ (busyAfter a b ≡ false)
+unfolding busyAfter
+busy-moves spent b = inl refl
+busy-moves standing b = inl refl
+busy-moves (ended e) b = inr refl
 
 -- not below is at least
 not-below : (i n : ℕ) → (i < n → ⊥) → n ≤ i
@@ -142,39 +176,48 @@ module _ (w : World) where
   abbrev m : Lent
   m = w .lent
 
-  refused-run-changes : (a : ℕ) → RunChanges w (ranWorld w (refusedRun d m a))
+  refused-run-changes : (a : ℕ) → RunChanges a 0 w (ranWorld w (refusedRun d m a))
   refused-run-changes a = record {
     sizes = refl;
     registers = refl;
     plane = refl;
+    busy = inl refl;
+    condition = condition-same (d .condition) a;
     ring = all-same (m .ring);
     screen = all-same (m .screen);
-    cursor = refl;
+    cursor = all-same (m .cursor);
     framebuffer = refl;
     output = refl;
+    nothing-consumed = λ z. (refl, refl);
   }
 
   ran-changes : (budget : ℕ) (g : Ring) → Open d m g
-      → RunChanges w (ranWorld w (ran d m (ranIn d m budget g)))
+      → RunChanges (answerNumber (ranIn d m budget g .answer)) (ranIn d m budget g .count) w (ranWorld w (ran d m (ranIn d m budget g)))
   ran-changes budget g o =
+      let r = ranIn d m budget g in
       let s = left-stays d m g o budget in
       let before = open-sound d m g o in
       let after = left-sound d m g o budget in
+      let filled = run-filled (sceneFor d m) g budget (m .ring) (machineOf d m) in
+      let same = run-nothing (sceneFor d m) g budget (m .ring) (machineOf d m) in
       record {
         sizes = refl;
         registers = refl;
         plane = refl;
+        busy = busy-moves (r .answer) (d .busy);
+        condition = rw (o .running) (condition-moves (r .answer) g (r .place) (s .min) (s .max));
         ring = record { same-length = s .ring-length; elsewhere = s .other-words };
         screen = record { same-length = after .same-length; elsewhere = λ i h. after .beyond-mode i (not-below i (widthOf d * heightOf d) h) };
-        cursor = after .cursor ∙ sym (before .cursor);
+        cursor = rw (o .running) (record { same-length = after .cursor ∙ sym (before .cursor); elsewhere = λ i h. filled i (not-below i _ h) });
         framebuffer = refl;
         output = refl;
+        nothing-consumed = λ z. (rw (s .untouched z, same z), ap (λ (x : Machine). x .marks) (same z));
       }
 
-  run-changes : (budget : ℕ) → RunChanges w (perform (run budget) w .world)
+  run-changes : (budget : ℕ) → OnlyNamed (run budget) w (perform (run budget) w)
   unfolding perform
   run-changes budget =
-      by-run d m (λ (o : RunOutcome). RunChanges w (ranWorld w o)) budget
+      by-run d m (λ (o : RunOutcome). RunChanges (o .answer) (o .count) w (ranWorld w o)) budget
       (λ a r. refused-run-changes a)
       (ran-changes budget)
 
@@ -231,9 +274,13 @@ call-answers fence w = refl
 call-answers (passed number) w = refl
 call-answers (lend l output) w = refl
 
-call-changes : (c : Call) (w : World) → OnlyNamed c w (perform c w .world)
+make-changes : (memory pixels : ℕ) (w : World) → OnlyNamed (make memory pixels) w (perform (make memory pixels) w)
+unfolding perform madeOf
+make-changes memory pixels w = (cases (sizesGood memory pixels) (λ t. rw t (inl refl)) (λ f. rw f (inr refl)), refl, refl)
+
+call-changes : (c : Call) (w : World) → OnlyNamed c w (perform c w)
 unfolding perform
-call-changes (make memory pixels) w = (refl, refl)
+call-changes (make memory pixels) w = make-changes memory pixels w
 call-changes (write index value) w = write-changes index value w
 call-changes (read index) w = refl
 call-changes (run budget) w = run-changes w budget
@@ -299,10 +346,4 @@ run-bounded budget w =
 
 -- "The run changes no other ring word, and none if it consumed nothing."
 pub run-untouched : (budget : ℕ) (w : World) → getD (perform (run budget) w .values) 0 0 ≡ 0 → perform (run budget) w .world .lent .ring ≡ w .lent .ring
-unfolding perform
-run-untouched budget w =
-    let d = w .device in
-    let m = w .lent in
-    by-run d m (λ (o : RunOutcome). o .count ≡ 0 → o .lent .ring ≡ m .ring) budget
-    (λ a r h. refl)
-    (λ g o. left-stays d m g o budget .untouched)
+run-untouched budget w z = ap (λ (l : Lent). l .ring) (run-changes w budget .nothing-consumed z .0)

@@ -225,7 +225,7 @@ unfolding isStart wellFormed lentGood
 alike-start w e s = rw (s .sizes, s .width, s .height, s .enable, s .config, s .condition, s .defined)
 
 -- a register whose number is not that of r is not r
-not-one : (index : ℕ) (w r : Writable) → registerOf index ≡ Writes w → (index ≡ numberOf (Writes r) → ⊥) → is w r ≡ false
+pub not-one : (index : ℕ) (w r : Writable) → registerOf index ≡ Writes w → (index ≡ numberOf (Writes r) → ⊥) → is w r ≡ false
 not-one index w r q n = ne-eqb _ _ (λ e. n (writes-number index w q ∙ e))
 
 alike-written : (d : Device) (ring : List ℕ) (index v : ℕ) → (index ≡ 1 → ⊥) → (index ≡ 2 → ⊥) → (index ≡ 3 → ⊥) → (index ≡ 20 → ⊥) → Alike d (written d ring index v .device)
@@ -376,7 +376,7 @@ NoRun [] w = Unit {0}
 NoRun (c ∷ cs) w = (Leaves c ⊎ (20 ≤ perform c w .answer)) × NoRun cs (perform c w .world)
 
 -- only CONFIG_DONE touches the remembered ring
-condition-kept : (d : Device) (ring : List ℕ) (v index : ℕ) → (index ≡ 20 → ⊥) → conditionOf (written d ring index v .device) ≡ conditionOf d
+pub condition-kept : (d : Device) (ring : List ℕ) (v index : ℕ) → (index ≡ 20 → ⊥) → conditionOf (written d ring index v .device) ≡ conditionOf d
 condition-kept d ring v index h = part-kept conditionOf d ring index v (λ w q x. rw (not-one index w ConfigDone q h))
 
 leaves-condition : (c : Call) (w : World) → Leaves c → conditionOf (perform c w .world .device) ≡ conditionOf (w .device)

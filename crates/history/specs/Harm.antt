@@ -1,16 +1,29 @@
 -- Demand 1: "No guest can do harm. Every register write, ring content and buffer size gets an answer from the table in document 01, and nothing but the
 -- places that document names changes. No caller has to look first."
-use Prim.Native.Nat.{ℕ, _*_, _/_, _≤_, _<_}
+use Prim.Native.Nat.{ℕ, zero, suc, _*_, _/_, _≤_, _<_, max}
 use mathlib.Core.Path.{_≡_}
 use mathlib.Core.Bool.{Bool, true, false, cond, _||_}
 use mathlib.Core.List.{List, [], _∷_}
 use mathlib.Core.Logic.{_⊎_}
 use lib.Dec.{eqb}
 use lib.ListN.{length, getD}
+use Rattle.execution.specs.declared.Cause.{Cause}
+use Rattle.execution.specs.Straight.{causeNumber, Turn, ends, exec, Line, beyond, next}
+use Rattle.ring.specs.declared.Ring.{Ring}
 use Rattle.ring.specs.Acceptance.{nextOf}
-use Rattle.device.specs.Device.{widthOf, heightOf}
-use Rattle.device_run.specs.Run.{withRing}
-use Rattle.history.specs.Calls.{World, Call, make, write, read, run, append, picture, offscreen, fence, passed, lend, perform}
+use Rattle.register.specs.declared.Register.the-variants.{Writes}
+use Rattle.register.specs.declared.Writable.{Writable}
+use Rattle.register.specs.Numbers.{registerOf}
+use Rattle.command.specs.declared.Action.{Action}
+use Rattle.command.specs.declared.Action.the-variants.{Update, Fill, Copy, Define, Fence, Nothing}
+use Rattle.command.specs.Commands.{entry, kindIn}
+use Rattle.effect.specs.Effects.{Machine}
+use Rattle.device.specs.declared.Condition.{Condition}
+use Rattle.device.specs.declared.Condition.the-variants.{Idle, Running, Faulted}
+use Rattle.device.specs.Device.{fresh, widthOf, heightOf}
+use Rattle.register_read.specs.Registers.{writableValue}
+use Rattle.device_run.specs.Run.{withRing, lineOf, turnFor}
+use Rattle.history.specs.Calls.{World, Call, make, write, read, run, append, picture, offscreen, fence, passed, lend, CallOutcome, perform}
 
 -- ---- answers
 
@@ -43,24 +56,67 @@ pub record SameBut (changes : ℕ → Type 0) (before after : List ℕ) : Type 0
 abbrev pub InMode : World → ℕ → Type 0
 InMode w i = i < widthOf (w .device) * heightOf (w .device)
 
--- A register write: of the device neither sizes nor marks, which are the fence and the defined cursor; no lent memory.
-pub record WriteChanges (w z : World) : Type 0 where
+-- A register write: of the device its own register, and beside it "CURSOR_ON 1 remembers id, X and Y and shows; 0 hides", what CONFIG_DONE remembers or
+-- forgets, and BUSY: "SYNC sets BUSY to 1", "Writing 0 to ENABLE or CONFIG_DONE clears BUSY". Neither sizes nor marks, which are the fence and the defined
+-- cursor; no lent memory.
+pub record WriteChanges (index value : ℕ) (w z : World) : Type 0 where
+  pub registers : (r : Writable) → (registerOf index ≡ Writes r → ⊥) → writableValue (z .device .registers) r ≡ writableValue (w .device .registers) r
+  pub plane : (index ≡ 27 → ⊥) → z .device .plane ≡ w .device .plane
+  pub condition : (index ≡ 20 → ⊥) → z .device .condition ≡ w .device .condition
+  pub busy : (index ≡ 21 → ⊥) → (index ≡ 1 → value ≡ 0 → ⊥) → (index ≡ 20 → value ≡ 0 → ⊥) → z .device .busy ≡ w .device .busy
   pub sizes : z .device .sizes ≡ w .device .sizes
   pub marks : z .device .marks ≡ w .device .marks
   pub lent : z .lent ≡ w .lent
   pub output : z .output ≡ w .output
 
--- A run: of the device the defined cursor, the fence, BUSY, and the remembered STOP or the fault; of the screen the mode's pixels; the cursor image.
--- "ring word 3 is written. The run changes no other ring word". "framebuffer never".
-pub record RunChanges (w z : World) : Type 0 where
+-- What a run that answered a may make of a device's condition: STOP moves, "MIN, MAX and STOP are remembered"; or the fault of its answer stands, which
+-- keeps no ring. Without a ring nothing runs.
+abbrev pub ConditionChanges : Condition → ℕ → Condition → Type 0
+ConditionChanges Idle a z = z ≡ Idle
+ConditionChanges (Running g) a z =
+    ((h : Ring) × (z ≡ Running h) × (h .min ≡ g .min) × (h .max ≡ g .max)) ⊎ ((c : Cause) × (z ≡ Faulted c) × (a ≡ causeNumber c))
+ConditionChanges (Faulted c) a z = z ≡ Faulted c
+
+-- The cursor words that a command fills: "Its pixels fill the first w·h cursor words".
+abbrev pub pixelsBy : Action → ℕ
+pixelsBy (Update r) = 0
+pixelsBy (Fill r colour rop) = 0
+pixelsBy (Copy from r rop) = 0
+pixelsBy (Define shape) = shape .w * shape .h
+pixelsBy (Fence number) = 0
+pixelsBy Nothing = 0
+
+-- The largest w·h among the first k commands that a line executes.
+unfoldable pub largestCursor : (Machine → List ℕ → Turn Machine) → ℕ → Line Machine → ℕ
+largestCursor turn zero a = 0
+largestCursor turn (suc k) a =
+    elim (next turn a) [
+      | ends e ↦ 0
+      | exec n s ↦ max (pixelsBy (entry (kindIn (a .words)) .action (a .words))) (largestCursor turn k (beyond a n s))
+    ]
+
+-- The cursor words that the first k commands of a run fill.
+abbrev pub cursorFilled : World → Condition → ℕ → ℕ
+cursorFilled w Idle k = 0
+cursorFilled w (Running g) k = largestCursor (turnFor (w .device) (w .lent) g) k (lineOf (w .device) (w .lent) g)
+cursorFilled w (Faulted c) k = 0
+
+-- A run that answered a and consumed k commands: of the device the defined cursor, the fence, BUSY, and the remembered STOP or the fault; of the screen the
+-- mode's pixels; of the cursor image what its commands fill. "ring word 3 is written. The run changes no other ring word, and none if it consumed
+-- nothing." "framebuffer never".
+pub record RunChanges (a k : ℕ) (w z : World) : Type 0 where
   pub sizes : z .device .sizes ≡ w .device .sizes
   pub registers : z .device .registers ≡ w .device .registers
   pub plane : z .device .plane ≡ w .device .plane
+  pub busy : (z .device .busy ≡ w .device .busy) ⊎ (z .device .busy ≡ false)
+  pub condition : ConditionChanges (w .device .condition) a (z .device .condition)
   pub ring : SameBut (λ i. i ≡ 3) (w .lent .ring) (z .lent .ring)
   pub screen : SameBut (InMode w) (w .lent .screen) (z .lent .screen)
-  pub cursor : length (z .lent .cursor) ≡ length (w .lent .cursor)
+  pub cursor : SameBut (λ i. i < cursorFilled w (w .device .condition) k) (w .lent .cursor) (z .lent .cursor)
   pub framebuffer : z .lent .framebuffer ≡ w .lent .framebuffer
   pub output : z .output ≡ w .output
+  -- where nothing was consumed, no memory changes, nor fence or defined cursor
+  pub nothing-consumed : k ≡ 0 → (z .lent ≡ w .lent) × (z .device .marks ≡ w .device .marks)
 
 -- "An append writes its word at NEXT_CMD and moves NEXT_CMD on": ring word 2 and the word where NEXT_CMD stood.
 pub record AppendChanges (w z : World) : Type 0 where
@@ -76,25 +132,26 @@ pub record PictureChanges (w z : World) : Type 0 where
   pub device : z .device ≡ w .device
   pub lent : z .lent ≡ w .lent
 
--- What a call may have changed of w, where it left z.
-abbrev pub OnlyNamed : Call → World → World → Type 0
-OnlyNamed (make memory pixels) w z = (z .lent ≡ w .lent) × (z .output ≡ w .output)
-OnlyNamed (write index value) w z = WriteChanges w z
-OnlyNamed (read index) w z = z ≡ w
-OnlyNamed (run budget) w z = RunChanges w z
-OnlyNamed (append word) w z = AppendChanges w z
-OnlyNamed picture w z = PictureChanges w z
-OnlyNamed offscreen w z = z ≡ w
-OnlyNamed fence w z = z ≡ w
-OnlyNamed (passed number) w z = z ≡ w
-OnlyNamed (lend l output) w z = (z .device ≡ w .device) × (z .lent ≡ l) × (z .output ≡ output)
+-- What a call may have changed of w, where it answered and left o. Making gives a fresh device or, refused, leaves the old one.
+abbrev pub OnlyNamed : Call → World → CallOutcome → Type 0
+OnlyNamed (make memory pixels) w o =
+    ((o .world .device ≡ fresh memory pixels) ⊎ (o .world .device ≡ w .device)) × (o .world .lent ≡ w .lent) × (o .world .output ≡ w .output)
+OnlyNamed (write index value) w o = WriteChanges index value w (o .world)
+OnlyNamed (read index) w o = o .world ≡ w
+OnlyNamed (run budget) w o = RunChanges (o .answer) (getD (o .values) 0 0) w (o .world)
+OnlyNamed (append word) w o = AppendChanges w (o .world)
+OnlyNamed picture w o = PictureChanges w (o .world)
+OnlyNamed offscreen w o = o .world ≡ w
+OnlyNamed fence w o = o .world ≡ w
+OnlyNamed (passed number) w o = o .world ≡ w
+OnlyNamed (lend l output) w o = (o .world .device ≡ w .device) × (o .world .lent ≡ l) × (o .world .output ≡ output)
 
 -- ---- demand 1
 
 -- One call: its answer is in its row, and it changes only what it may.
 pub record Safe (c : Call) (w : World) : Type 0 where
   pub answered : among (perform c w .answer) (row c) ≡ true
-  pub only-named : OnlyNamed c w (perform c w .world)
+  pub only-named : OnlyNamed c w (perform c w)
   -- "Answers 20 to 34 change nothing; a run's count is then 0"; "Reading an absent register gives 30 and value 0."
   pub refused : 20 ≤ perform c w .answer → perform c w .world ≡ w
   pub refused-values : 20 ≤ perform c w .answer → (i : ℕ) → getD (perform c w .values) i 0 ≡ 0
