@@ -7,4 +7,5 @@ pub mod StartTest
 pub mod Walks
 pub mod Starts
 pub mod NoHarm
+pub mod Refuted
 pub mod InWords
