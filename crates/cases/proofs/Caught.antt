@@ -19,7 +19,8 @@ use Rattle.execution.specs.declared.End.the-variants.{Drained, Waiting, Fault}
 use Rattle.execution.specs.Straight.{endNumber, Turn, ends, exec, Line, beyond, next, steps, straight, whole}
 use Rattle.execution.specs.Table.{unless, turnOf}
 use Rattle.execution.specs.Claim.{run, spent, standing, ended, Reply, ran, answerNumber, taken, counted, metEnd, met, faulted, first, fed, countAll, standingFault, says}
-use Rattle.execution.specs.Queue.{fresh, offer, runs, try, act, play}
+use Rattle.execution.specs.Turns.{runs}
+use Rattle.execution.specs.Queue.{fresh, offer, try, act, play}
 use Rattle.execution.proofs.QueueLaws.{runs-ends, runs-exec, demand3}
 use Rattle.command.specs.Commands.{entry, kindOf, commands}
 use Rattle.command.proofs.Laws.{command-laws}

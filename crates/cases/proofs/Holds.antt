@@ -7,7 +7,7 @@ use Rattle.pixel.specs.Blend.{blendPixel}
 use Rattle.raster.specs.Painters.{rowsFit, filled, moves, copied}
 use Rattle.cursor.specs.Plane.{shapeGood, covers}
 use Rattle.execution.specs.Table.{unless, turnOf}
-use Rattle.execution.specs.Queue.{runs}
+use Rattle.execution.specs.Turns.{runs}
 use Rattle.command.specs.Commands.{entry, kindOf, commands}
 use Rattle.cases.specs.Cases.{AllEqual, cases}
 

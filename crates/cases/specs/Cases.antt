@@ -14,7 +14,7 @@ use Rattle.cursor.specs.declared.Defined.the-variants.{Undefined}
 use Rattle.cursor.specs.Plane.{cornerOf, offsetAt, covers}
 use Rattle.execution.specs.Table.{turnOf}
 use Rattle.execution.specs.Claim.{answerNumber}
-use Rattle.execution.specs.Queue.{runs}
+use Rattle.execution.specs.Turns.{runs}
 use Rattle.ring.specs.Waiting.{carried}
 use Rattle.command.specs.Commands.{sizeBy, kindIn}
 use Rattle.effect.specs.Effects.{scene}

@@ -15,7 +15,8 @@ use Rattle.execution.specs.Straight.{Turn, Line, endOf, steps, straight,
 use Rattle.execution.specs.Table.{Table, unless, turnOf}
 use Rattle.execution.specs.Claim.{Op, append, run, ended, appended, ran, Event, replyNumber, counted, taken, metEnd, met, faulted, first, fed, countAll, standingFault}
 use Rattle.execution.specs.Claim.{verdict, lineAfter, says, Demand3}
-use Rattle.execution.specs.Queue.{Played, fresh, offer, runs, try, act, play}
+use Rattle.execution.specs.Turns.{runs}
+use Rattle.execution.specs.Queue.{Played, fresh, offer, try, act, play}
 use Rattle.execution.proofs.Tables.{TableLaws, laws-of}
 use Rattle.execution.proofs.QueueLaws.{demand3}
 

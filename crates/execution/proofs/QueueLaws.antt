@@ -17,7 +17,8 @@ use Rattle.execution.specs.declared.End.the-variants.{Drained, Waiting, 
 use Rattle.execution.specs.Straight.{causeNumber, Turn, ends, exec, Line, beyond, more, next, steps, straight, whole, ending}
 use Rattle.execution.specs.Claim.{Op, append, run, Answer, spent, standing, ended, appended, Event, taken, counted, metEnd, met, faulted, first, fed, countAll, standingFault}
 use Rattle.execution.specs.Claim.{verdict, Moves, MovesOn, start, lineAfter, says, Demand3}
-use Rattle.execution.specs.Queue.{LineRun, Queue, Acted, fresh, offer, oneMore, runs, try, act, play}
+use Rattle.execution.specs.Turns.{LineRun, oneMore, runs}
+use Rattle.execution.specs.Queue.{Queue, Acted, fresh, offer, try, act, play}
 use Rattle.execution.proofs.Laws.{Laws, Goes, here, on, goes-steps, goes-straight, goes-on, goes-more, goes-shorter}
 use Rattle.execution.proofs.Laws.{whole-exec, whole-ends, ending-exec, ending-ends}
 
@@ -39,14 +40,14 @@ module _ {S : Type 0} (turn : S → List ℕ → Turn S) where
   runs-exec b a n s q = rw (q, runs)
 
   -- what a run of a line is: its commands are steps, as many as it may do and can do, and its answer is document 01's; a fault is that of the next turn
-  record RunsRight (b : ℕ) (a : Line S) (r : LineRun S) : Type 0 where
-    goes : Goes turn (r .count) a (r .line)
-    many : r .count ≡ min b (whole turn a)
-    right-answer : r .answer ≡ verdict (eqb (r .count) b) (ending turn a)
-    met-there : (c : Cause) → met (r .answer) ≡ some c → next turn (r .line) ≡ ends (Fault c)
+  pub record RunsRight (b : ℕ) (a : Line S) (r : LineRun S) : Type 0 where
+    pub goes : Goes turn (r .count) a (r .line)
+    pub many : r .count ≡ min b (whole turn a)
+    pub right-answer : r .answer ≡ verdict (eqb (r .count) b) (ending turn a)
+    pub met-there : (c : Cause) → met (r .answer) ≡ some c → next turn (r .line) ≡ ends (Fault c)
 
   module _ {cap : ℕ} (laws : Laws cap turn) where
-    run-right : (b : ℕ) (a : Line S) → RunsRight b a (runs turn b a)
+    pub run-right : (b : ℕ) (a : Line S) → RunsRight b a (runs turn b a)
     unfolding runs verdict met
     run-right zero a = record { goes = here; many = sym (zero-min (whole turn a)); right-answer = refl; met-there = λ c q. cc }
     run-right (suc b) a = go (next turn a) refl (λ n s. run-right b (beyond a n s))

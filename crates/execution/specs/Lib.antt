@@ -1,4 +1,5 @@
 pub mod Straight
 pub mod Table
 pub mod Claim
+pub mod Turns
 pub mod Queue

@@ -1,21 +1,15 @@
--- The ring as a queue, and appends and runs of it, turn by turn in document 01's order.
--- `runs`, with what it gives, has to be believed: it is what the contract of a run says the code does (`run/Run.runWords`). The queue around it, `Queue`
--- and what acts on it, has not: that it meets the claim is a theorem for any turn (`QueueLaws.demand3`), and what is claimed of the device does not name it.
+-- The ring as a queue: appends and runs of it, each on what the last one left.
+-- It need not be believed: that it meets the claim is a theorem for any turn (`QueueLaws.demand3`), and what is claimed of the device does not name it.
 use mathlib.Core.Bool.{Bool, true, false}
 use mathlib.Core.Option.{Option, none, some}
 use mathlib.Core.List.{List, [], _∷_}
-use Prim.Native.Nat.{ℕ, zero, suc}
+use Prim.Native.Nat.{ℕ}
 use lib.ListN.{length}
 use lib.Dec.{eqb}
 use Rattle.execution.specs.declared.Cause.{Cause}
-use Rattle.execution.specs.Straight.{Turn, ends, exec, Line, beyond, more, next}
-use Rattle.execution.specs.Claim.{Op, append, run, Answer, spent, standing, ended, Reply, appended, ran, Event, met}
-
--- what a run of a line gives
-pub record LineRun (S : Type 0) : Type 0 where
-  pub answer : Answer
-  pub count : ℕ
-  pub line : Line S
+use Rattle.execution.specs.Straight.{Turn, Line, more}
+use Rattle.execution.specs.Claim.{Op, append, run, standing, Reply, appended, ran, Event, met}
+use Rattle.execution.specs.Turns.{LineRun, runs}
 
 -- the words waiting, the machine, and the standing fault
 pub record Queue (S : Type 0) : Type 0 where
@@ -42,23 +36,14 @@ module _ {S : Type 0} where
   offer true x q = record { reply = appended false; queue = q }
   offer false x q = record { reply = appended true; queue = record { line = more (q .line) (x ∷ []); stands = q .stands } }
 
-  -- with one command more before it
-  abbrev pub oneMore : LineRun S → LineRun S
-  oneMore r = record { answer = r .answer; count = suc (r .count); line = r .line }
-
   -- a run that is not refused, as it leaves the queue
   abbrev pub settle : LineRun S → Acted S
   settle r = record { reply = ran (r .answer) (r .count); queue = record { line = r .line; stands = met (r .answer) } }
 
 module _ {S : Type 0} (turn : S → List ℕ → Turn S) where
-  -- the turns of a run: first the budget, then the turn on the words waiting
-  unfoldable pub runs : ℕ → Line S → LineRun S
-  runs zero a = record { answer = spent; count = 0; line = a }
-  runs (suc b) a = elim (next turn a) [ ends e ↦ record { answer = ended e; count = 0; line = a } | exec n s ↦ oneMore (runs b (beyond a n s)) ]
-
   -- a run of budget b where this fault, if any, stands
   unfoldable pub try : Option Cause → ℕ → Queue S → Acted S
-  try none b q = settle (runs b (q .line))
+  try none b q = settle (runs turn b (q .line))
   try (some c) b q = record { reply = ran standing 0; queue = q }
 
 module _ {S : Type 0} (cap : ℕ) (turn : S → List ℕ → Turn S) where

@@ -20,7 +20,7 @@ use Rattle.execution.specs.declared.Cause.the-variants.{NotOffered, BadOperand,
 use Rattle.execution.specs.Straight.{Turn, ends, exec, Line, beyond, next}
 use Rattle.execution.specs.Table.{unless, turnOf}
 use Rattle.execution.specs.Claim.{Answer, spent, standing, ended, answerNumber}
-use Rattle.execution.specs.Queue.{LineRun, runs}
+use Rattle.execution.specs.Turns.{LineRun, runs}
 use Rattle.execution.proofs.QueueLaws.{runs-ends, runs-exec}
 use Rattle.ring.specs.declared.Ring.{Ring}
 use Rattle.ring.specs.Acceptance.{nextOf}

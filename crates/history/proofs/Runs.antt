@@ -7,7 +7,7 @@ use native.Mathlib.Omega.{arith}
 use lib.ListN.{length, drop, length-drop}
 use lib.Seq.{drop-drop}
 use Rattle.execution.specs.Straight.{Turn, ends, exec, Line, beyond, next}
-use Rattle.execution.specs.Queue.{LineRun, runs}
+use Rattle.execution.specs.Turns.{LineRun, runs}
 use Rattle.execution.proofs.Laws.{Laws}
 use Rattle.execution.proofs.QueueLaws.{runs-ends, runs-exec}
 

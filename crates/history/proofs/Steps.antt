@@ -18,7 +18,8 @@ use Rattle.execution.specs.Straight.{Turn, Line, more}
 use Rattle.execution.specs.Table.{turnOf}
 use Rattle.execution.specs.Claim.{Op, Answer, spent, standing, ended, taken, counted, metEnd, met}
 use Rattle.execution.specs.Claim as C
-use Rattle.execution.specs.Queue.{Queue, Acted, LineRun, fresh, offer, settle, runs, try, act}
+use Rattle.execution.specs.Turns.{LineRun, runs}
+use Rattle.execution.specs.Queue.{Queue, Acted, fresh, offer, settle, try, act}
 use Rattle.execution.proofs.Laws.{Laws}
 use Rattle.ring.specs.declared.Ring.{Ring}
 use Rattle.ring.specs.Acceptance.{minOf, maxOf, nextOf, stopOf, usable}

@@ -19,7 +19,7 @@ use Rattle.execution.specs.declared.End.the-variants.{Drained, Waiting, Fault}
 use Rattle.execution.specs.Straight.{causeNumber, endNumber, Turn, ends, exec, Line, beyond, next, whole, ending}
 use Rattle.execution.specs.Table.{unless, turnOf}
 use Rattle.execution.specs.Claim.{Answer, spent, standing, ended, answerNumber, verdict}
-use Rattle.execution.specs.Queue.{runs}
+use Rattle.execution.specs.Turns.{runs}
 use Rattle.execution.proofs.Laws.{Laws, whole-exec, whole-ends, ending-exec, ending-ends}
 use Rattle.execution.proofs.QueueLaws.{runs-ends, runs-exec}
 use Rattle.ring.specs.declared.Ring.{Ring}

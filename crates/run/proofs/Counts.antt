@@ -13,7 +13,7 @@ use borrow.Author.Tests.{eqb-true, eqb-false, ne-eqb}
 use borrow.Table.Steps.{cases}
 use Rattle.execution.specs.Straight.{Line}
 use Rattle.execution.specs.Claim as Claim
-use Rattle.execution.specs.Queue.{LineRun, oneMore}
+use Rattle.execution.specs.Turns.{LineRun, oneMore}
 use Rattle.effect.specs.Effects.{Machine}
 use Rattle.run.specs.Run.{stamped}
 use Rattle.run.specs.Going.{plus}

@@ -17,7 +17,7 @@ use Rattle.execution.specs.Straight.{Line, ends, exec}
 use Rattle.execution.specs.Straight as O
 use Rattle.execution.specs.Table.{turnOf}
 use Rattle.execution.specs.Claim as Claim
-use Rattle.execution.specs.Queue.{LineRun, runs}
+use Rattle.execution.specs.Turns.{LineRun, runs}
 use Rattle.execution.proofs.QueueLaws.{runs-ends, runs-exec}
 use Rattle.ring.specs.Waiting.{ahead, words, carried}
 use Rattle.ring.proofs.WaitingLaws.{InRing, ahead-in, ahead-zero, length-words, take-words, drop-words, words-outside}

@@ -15,7 +15,7 @@ use Rattle.execution.specs.Straight as O
 use Rattle.execution.specs.Straight.{ends}
 use Rattle.execution.specs.Table.{turnOf, unless}
 use Rattle.execution.specs.Claim as Claim
-use Rattle.execution.specs.Queue.{runs}
+use Rattle.execution.specs.Turns.{runs}
 use Rattle.execution.proofs.QueueLaws.{runs-ends}
 use Rattle.ring.specs.declared.Ring.{Ring}
 use Rattle.ring.specs.Acceptance.{nextOf}

@@ -15,7 +15,7 @@ use Rattle.execution.specs.declared.End.{End}
 use Rattle.execution.specs.declared.End.the-variants.{Drained, Waiting, Fault}
 use Rattle.execution.specs.Straight.{Line, Turn, ends, exec}
 use Rattle.execution.specs.Claim as Claim
-use Rattle.execution.specs.Queue.{LineRun, runs}
+use Rattle.execution.specs.Turns.{LineRun, runs}
 use Rattle.execution.proofs.QueueLaws.{runs-ends, runs-exec}
 use Rattle.execution.specs.Table.{turnOf}
 use Rattle.ring.specs.Acceptance.{maxWords}

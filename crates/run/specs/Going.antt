@@ -11,7 +11,7 @@ use Rattle.execution.specs.declared.End.{End}
 use Rattle.execution.specs.Straight.{Line, ends, exec}
 use Rattle.execution.specs.Straight as O
 use Rattle.execution.specs.Table.{turnOf}
-use Rattle.execution.specs.Queue.{LineRun, runs}
+use Rattle.execution.specs.Turns.{LineRun, runs}
 use Rattle.ring.specs.Waiting.{carried}
 use Rattle.cursor.specs.declared.Defined.{Defined}
 use Rattle.command.specs.declared.Data.{Data}

@@ -10,7 +10,7 @@ use Rattle.execution.specs.Straight.{ends}
 use Rattle.execution.specs.Straight as O
 use Rattle.execution.specs.Table.{Table, turnOf, unless}
 use Rattle.execution.specs.Claim as Claim
-use Rattle.execution.specs.Queue as Queue
+use Rattle.execution.specs.Turns as Turns
 use Rattle.cursor.specs.Plane.{imageWords}
 use Rattle.ring.specs.declared.Ring.{Ring}
 use Rattle.ring.specs.Acceptance.{nextOf, maxWords}
@@ -78,7 +78,7 @@ abbrev pub ranTo : View → RunEnd → ℕ → Marks → RingRun
 ranTo v answer count marks = record { answer = answer; count = count; ring = placeOf v; marks = marks }
 
 -- STOP has passed the words that turns dropped. "The run changes no other ring word, and none if it consumed nothing."
-unfoldable pub left : Ring → List ℕ → List ℕ → Queue.LineRun Machine → RingOutcome
+unfoldable pub left : Ring → List ℕ → List ℕ → Turns.LineRun Machine → RingOutcome
 left g ring words r =
     let to = passed g (length words - length (r .line .words)) in
     record {
@@ -91,7 +91,7 @@ left g ring words r =
 
 -- A run of all turns on these words.
 unfoldable pub runWords : (Machine → List ℕ → O.Turn Machine) → Ring → ℕ → List ℕ → List ℕ → Machine → RingOutcome
-runWords turn g budget ring words m = left g ring words (Queue.runs turn budget (record { words = words; machine = m }))
+runWords turn g budget ring words m = left g ring words (Turns.runs turn budget (record { words = words; machine = m }))
 
 -- The answer where NEXT_CMD is unusable: "budget used up: 2" comes before 13.
 unfoldable pub nextUnusable : ℕ → Claim.Answer
