@@ -36,7 +36,8 @@ use Rattle.device_run.specs.Run.{Lent, RunOutcome, conditionAfter, busyAfter, m
 use Rattle.device.proofs.Laws.{well-formed}
 use Rattle.register_write.proofs.Kept.{part-kept, sizes-kept, marks-kept, busy-kept}
 use Rattle.register_read.proofs.Readings.{value-kept}
-use Rattle.register_write.proofs.Refusals.{Why, no-register, read-only, bad-value, wrong-length, ring-refused, is-taken, why, ill-formed-write}
+use Rattle.register_write.specs.Rules.{Why, no-register, read-only, bad-value, wrong-length, ring-refused, is-taken}
+use Rattle.register_write.proofs.Refusals.{why, ill-formed-write}
 use Rattle.history.proofs.KeptByRun.{NotStanding, Refusal, lent-length, disabled, not-configured, fault-stands, too-large, Open, ranIn, by-run, left-sound, left-stays, open-sound, refused-run, run-count, run-nothing, run-filled, beyond-rows}
 use Rattle.history.specs.Calls.{World, Call, make, write, read, run, append, picture, offscreen, fence, passed, lend, perform, performAll}
 use Rattle.history.specs.Harm.{row, among, SameBut, InMode, WriteChanges, ConditionChanges, RunChanges, AppendChanges, PictureChanges, OnlyNamed, Safe, Harmless}

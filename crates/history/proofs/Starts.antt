@@ -2,8 +2,8 @@
 -- Assumes nothing.
 use mathlib.Core.Path.{_≡_, refl, sym, ap, _∙_}
 use mathlib.Core.Bool.{Bool, true, false, _&&_, true≢false}
-use mathlib.Core.List.{List, [], _∷_, map}
-use mathlib.Core.Logic.{_⊎_, ⊎-elim}
+use mathlib.Core.List.{List, [], _∷_}
+use mathlib.Core.Logic.{⊎-elim}
 use Prim.Native.Nat.{ℕ, _*_, _/_, _≤_}
 use native.Mathlib.Omega.{arith}
 use lib.Dec.{eqb}
@@ -17,8 +17,7 @@ use Rattle.ring.proofs.AppendLaws.{append-refused}
 use Rattle.register.specs.declared.Register.the-variants.{Writes}
 use Rattle.register.specs.declared.Writable.{Writable}
 use Rattle.register.specs.declared.Writable.the-variants.{Enable, Width, Height, ConfigDone}
-use Rattle.register.specs.Numbers.{Numbered, numbers, among, registerOf}
-use Rattle.register.proofs.ByNumber.{numberOf}
+use Rattle.register.specs.Numbers.{Numbered, numbers, among, registerOf, numberOf}
 use Rattle.effect.specs.declared.Marks.{Marks}
 use Rattle.device.specs.declared.Device.{Device}
 use Rattle.device.specs.declared.Sizes.{Sizes}
@@ -28,17 +27,19 @@ use Rattle.device.specs.Device.{memoryOf, widthOf, heightOf, enabledOf, configu
 use Rattle.device.specs.Making.{madeOf}
 use Rattle.register_write.specs.Answers as A
 use Rattle.register_write.specs.Registers.{taken, inRange, effectOf, ringAsked, remembering, written}
+use Rattle.register_write.specs.Rules.{wrong-length, ring-refused}
 use Rattle.device_run.specs.Run as R
 use Rattle.device_run.specs.Run.{RunOutcome, lentGood}
 use Rattle.device.proofs.Laws.{well-formed}
 use Rattle.device.proofs.Kept.{fresh-well-formed}
 use Rattle.register_write.proofs.Effects.{is, only-own, width-stored, height-stored, enable-sets}
 use Rattle.register_write.proofs.Kept.{remembered, effect-taken, ring-taken, written-well-formed, part-kept, sizes-kept, marks-kept}
-use Rattle.register_write.proofs.Refusals.{refused-changes-nothing, ill-formed-write, wrong-length, ring-refused, only}
+use Rattle.register_write.proofs.Refusals.{refused-changes-nothing, ill-formed-write, only}
 use Rattle.adapter.proofs.Refusals.{refused-picture}
 use Rattle.history.proofs.KeptByRun.{refused-run, run-well-formed}
-use Rattle.history.specs.Calls.{World, Call, make, write, read, run, append, picture, offscreen, fence, passed, lend, CallOutcome, withDevice, perform, History, performAll}
+use Rattle.history.specs.Calls.{World, Call, make, write, read, run, append, picture, offscreen, fence, passed, lend, CallOutcome, withDevice, perform, performAll}
 use Rattle.history.specs.Demand.{ringAtStart, isStart}
+use Rattle.history.specs.Keeping.{starting, answers, Keeping, reads, shows, edges, last-fence, has-passed, refusal, elsewhere, enabled, accepted, Leaves, NoRun}
 
 -- ---- what a start is, test by test
 
@@ -139,14 +140,6 @@ accepted-starts w m l e f u n =
       ring = remembered-start ring u n;
     } in
     (p, rw p (says-start _ start))
-
--- "the making and register writes that lead to the start"
-abbrev pub starting : ℕ → ℕ → ℕ → ℕ → List Call
-starting memory pixels width height = make memory pixels ∷ write 2 width ∷ write 3 height ∷ write 1 1 ∷ write 20 1 ∷ []
-
--- every answer of a history
-abbrev pub answers : History → List ℕ
-answers h = map (λ (o : CallOutcome). o .answer) (h .outcomes)
 
 -- From any world whose lent memories have the right lengths for M and P, at ring words that are usable and empty: for every M and P that a device can be
 -- made for and every mode that a device can have and that fits P.
@@ -310,19 +303,6 @@ untaken-stays word w h =
 
 -- ---- the calls that leave a start a start
 
-pub data Keeping (w : World) : Call → Type 0 where
-  reads : (index : ℕ) → Keeping w (read index)
-  shows : Keeping w picture
-  edges : Keeping w offscreen
-  last-fence : Keeping w fence
-  has-passed : (number : ℕ) → Keeping w (passed number)
-  -- refused with a number of document 01's table
-  refusal : (c : Call) → 20 ≤ perform c w .answer → Keeping w c
-  -- a register other than ENABLE, WIDTH, HEIGHT and CONFIG_DONE
-  elsewhere : (index value : ℕ) → (index ≡ 1 → ⊥) → (index ≡ 2 → ⊥) → (index ≡ 3 → ⊥) → (index ≡ 20 → ⊥) → Keeping w (write index value)
-  enabled : Keeping w (write 1 1)
-  accepted : Keeping w (write 20 1)
-
 pub start-kept : (w : World) (c : Call) → Keeping w c → isStart w ≡ true → isStart (perform c w .world) ≡ true
 unfolding perform isStart
 start-kept w c (reads index) s = s
@@ -356,24 +336,6 @@ all-well-formed [] w y = y
 all-well-formed (c ∷ cs) w y = all-well-formed cs (perform c w .world) (perform-well-formed c w y)
 
 -- ---- document 01's own words for the start
-
--- "no run made": neither a run nor a new device nor a write to CONFIG_DONE
-abbrev pub Leaves : Call → Type 0
-Leaves (make memory pixels) = ⊥
-Leaves (write index value) = index ≡ 20 → ⊥
-Leaves (read index) = Unit {0}
-Leaves (run budget) = ⊥
-Leaves (append word) = Unit {0}
-Leaves picture = Unit {0}
-Leaves offscreen = Unit {0}
-Leaves fence = Unit {0}
-Leaves (passed number) = Unit {0}
-Leaves (lend l output) = Unit {0}
-
--- ", refusals aside", each call on what the last one left
-abbrev pub NoRun : List Call → World → Type 0
-NoRun [] w = Unit {0}
-NoRun (c ∷ cs) w = (Leaves c ⊎ (20 ≤ perform c w .answer)) × NoRun cs (perform c w .world)
 
 -- only CONFIG_DONE touches the remembered ring
 pub condition-kept : (d : Device) (ring : List ℕ) (v index : ℕ) → (index ≡ 20 → ⊥) → conditionOf (written d ring index v .device) ≡ conditionOf d

@@ -1,4 +1,5 @@
 pub mod Calls
 pub mod Harm
 pub mod Demand
+pub mod Keeping
 pub mod Replay

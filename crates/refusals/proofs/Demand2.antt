@@ -41,12 +41,12 @@ use Rattle.register_read.specs.Answers.{Reading}
 use Rattle.adapter.specs.Picture.{Pictured, pictureOf}
 use Rattle.register_read.specs.Registers.{readBy, readOf}
 use Rattle.register_write.specs.Registers.{written}
+use Rattle.register_write.specs.Rules.{no-register, read-only, bad-value, wrong-length, ring-refused, is-taken}
 use Rattle.device_run.specs.Run.{Lent, RunOutcome, machineOf, sceneFor, lineOf, turnFor, ran, refusedRun, runBy, runOf}
 use Rattle.device.proofs.Kept.{make-refused}
 use Rattle.register_write.proofs.Refusals as WriteRefusals
 use Rattle.register_read.proofs.Refusals as ReadRefusals
 use Rattle.adapter.proofs.Refusals as PictureRefusals
-use Rattle.register_write.proofs.Refusals.{no-register, read-only, bad-value, wrong-length, ring-refused, is-taken}
 use Rattle.device_run.proofs.RunLaws.{run-by}
 use Rattle.refusals.specs.Refusing.{isRefusal, Sizes, Make34, Write30, Write31, Write32, Write20, Write33, Write0, Read30}
 use Rattle.refusals.specs.Refusing.{Run20, Run22, Run21, Run24, Run23, Starts, NextUsable, PictureLent, Picture20, Picture24, Append1}

@@ -24,8 +24,8 @@ use Rattle.execution.proofs.Laws.{Laws, whole-exec, whole-ends, ending-exec, en
 use Rattle.execution.proofs.QueueLaws.{runs-ends, runs-exec}
 use Rattle.ring.specs.declared.Ring.{Ring}
 use Rattle.ring.specs.Waiting.{waiting, carried, placed, nextGood}
-use Rattle.ring.specs.Acceptance.{usable, nextOf}
-use Rattle.ring.proofs.Laws.{Usable, usable-when, when-usable, Placed, placed-when}
+use Rattle.ring.specs.Acceptance.{usable, Usable, nextOf}
+use Rattle.ring.proofs.Laws.{usable-when, when-usable, Placed, placed-when}
 use Rattle.register.specs.declared.Writable.{Writable}
 use Rattle.register.specs.declared.Writable.the-variants.{Id, Enable, Width, Height, ConfigDone, Sync, GuestId, CursorId, CursorX, CursorY, CursorOn}
 use Rattle.command.proofs.Laws.{command-laws}

@@ -27,7 +27,8 @@ use Rattle.device.specs.declared.Device.{Device}
 use Rattle.device.specs.Device.{pixelsOf, widthOf, heightOf, enabledOf, configuredOf, conditionOf, modeFits, wellFormed}
 use Rattle.register_write.specs.Registers.{written}
 use Rattle.device_run.specs.Run.{Lent, RunOutcome, lentGood, machineOf, sceneFor, ran, refusedRun, runBy, runOf}
-use Rattle.register_write.proofs.Refusals.{Why, no-register, read-only, bad-value, wrong-length, ring-refused, is-taken, why}
+use Rattle.register_write.specs.Rules.{Why, no-register, read-only, bad-value, wrong-length, ring-refused, is-taken}
+use Rattle.register_write.proofs.Refusals.{why}
 use Rattle.device_run.proofs.RunLaws.{run-by}
 use Rattle.refusals.specs.Refusing.{isRefusal, Write30, Write31, Write32, Write20, Write33, Write0, RunLent, Run20, Run22, Run21, Run24, Run23, Starts}
 use Rattle.refusals.specs.Refusing.{Turn0, Turn10, HeadMissing, HeadBad, Turn12, WordsMissing, OperandBad, Executes}

@@ -9,9 +9,8 @@ use lib.Dec.{leb}
 use lib.ListN.{length}
 use Rattle.execution.specs.declared.Cause.{Cause}
 use Rattle.ring.specs.declared.Ring.{Ring}
-use Rattle.ring.specs.Acceptance.{minOf, maxOf, nextOf, stopOf}
+use Rattle.ring.specs.Acceptance.{minOf, maxOf, nextOf, stopOf, Usable}
 use Rattle.ring.specs.Append.{movedOn}
-use Rattle.ring.proofs.Laws.{Usable}
 use Rattle.register.specs.declared.Register.the-variants.{Writes, Reads, Absent}
 use Rattle.register.specs.declared.ReadOnly.{ReadOnly}
 use Rattle.register.specs.declared.Writable.{Writable}

@@ -2,47 +2,13 @@
 -- Assumes nothing.
 use mathlib.Core.Path.{_≡_, refl, sym, ap, _∙_}
 use mathlib.Core.List.{List, map}
-use Prim.Native.Nat.{ℕ}
 use lib.ListN.{getD}
 use Rattle.register.specs.declared.Register.{Register}
 use Rattle.register.specs.declared.Register.the-variants.{Writes, Reads, Absent}
 use Rattle.register.specs.declared.Writable.{Writable}
 use Rattle.register.specs.declared.Writable.the-variants.{Id, Enable, Width, Height, ConfigDone, Sync, GuestId, CursorId, CursorX, CursorY, CursorOn}
 use Rattle.register.specs.declared.ReadOnly.the-variants.{MaxWidth, MaxHeight, Depth, BitsPerPixel, Pseudocolor, RedMask, GreenMask, BlueMask, BytesPerLine, FbStart, FbOffset, VramSize, FbSize, Capabilities, MemStart, MemSize, Busy, HostBitsPerPixel}
-use Rattle.register.specs.Numbers.{numbers, registerOf}
-
--- the number of a register; an absent one has none: 29 is past the table
-abbrev pub numberOf : Register → ℕ
-numberOf (Writes Id) = 0
-numberOf (Writes Enable) = 1
-numberOf (Writes Width) = 2
-numberOf (Writes Height) = 3
-numberOf (Reads MaxWidth) = 4
-numberOf (Reads MaxHeight) = 5
-numberOf (Reads Depth) = 6
-numberOf (Reads BitsPerPixel) = 7
-numberOf (Reads Pseudocolor) = 8
-numberOf (Reads RedMask) = 9
-numberOf (Reads GreenMask) = 10
-numberOf (Reads BlueMask) = 11
-numberOf (Reads BytesPerLine) = 12
-numberOf (Reads FbStart) = 13
-numberOf (Reads FbOffset) = 14
-numberOf (Reads VramSize) = 15
-numberOf (Reads FbSize) = 16
-numberOf (Reads Capabilities) = 17
-numberOf (Reads MemStart) = 18
-numberOf (Reads MemSize) = 19
-numberOf (Writes ConfigDone) = 20
-numberOf (Writes Sync) = 21
-numberOf (Reads Busy) = 22
-numberOf (Writes GuestId) = 23
-numberOf (Writes CursorId) = 24
-numberOf (Writes CursorX) = 25
-numberOf (Writes CursorY) = 26
-numberOf (Writes CursorOn) = 27
-numberOf (Reads HostBitsPerPixel) = 28
-numberOf Absent = 29
+use Rattle.register.specs.Numbers.{numbers, registerOf, numberOf}
 
 unfoldable pub table : List Register
 table = map (λ n. n .register) numbers

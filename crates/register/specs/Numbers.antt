@@ -57,3 +57,36 @@ among index (r ∷ rs) = cond (eqb index (r .number)) (r .register) (among index
 
 unfoldable pub registerOf : ℕ → Register
 registerOf index = among index numbers
+
+-- A register's number, by the same table; an absent one has none: 29 is past the table.
+abbrev pub numberOf : Register → ℕ
+numberOf (Writes Id) = 0
+numberOf (Writes Enable) = 1
+numberOf (Writes Width) = 2
+numberOf (Writes Height) = 3
+numberOf (Reads MaxWidth) = 4
+numberOf (Reads MaxHeight) = 5
+numberOf (Reads Depth) = 6
+numberOf (Reads BitsPerPixel) = 7
+numberOf (Reads Pseudocolor) = 8
+numberOf (Reads RedMask) = 9
+numberOf (Reads GreenMask) = 10
+numberOf (Reads BlueMask) = 11
+numberOf (Reads BytesPerLine) = 12
+numberOf (Reads FbStart) = 13
+numberOf (Reads FbOffset) = 14
+numberOf (Reads VramSize) = 15
+numberOf (Reads FbSize) = 16
+numberOf (Reads Capabilities) = 17
+numberOf (Reads MemStart) = 18
+numberOf (Reads MemSize) = 19
+numberOf (Writes ConfigDone) = 20
+numberOf (Writes Sync) = 21
+numberOf (Reads Busy) = 22
+numberOf (Writes GuestId) = 23
+numberOf (Writes CursorId) = 24
+numberOf (Writes CursorX) = 25
+numberOf (Writes CursorY) = 26
+numberOf (Writes CursorOn) = 27
+numberOf (Reads HostBitsPerPixel) = 28
+numberOf Absent = 29

@@ -1,12 +1,12 @@
 -- The device id's negotiation ends, with the highest id that both sides have.
 -- Assumes nothing.
 use mathlib.Core.Path.{_≡_, refl, ap, _∙_}
-use mathlib.Core.Bool.{true, false, cond}
+use mathlib.Core.Bool.{true, false}
 use mathlib.Core.List.{List}
-use mathlib.Core.Option.{Option, none, some}
+use mathlib.Core.Option.{some}
 use Prim.Native.Nat.{ℕ, zero, suc, _+_, _-_, _≤_, min}
 use native.Mathlib.Omega.{arith}
-use lib.Dec.{eqb, leb}
+use lib.Dec.{leb}
 use borrow.Author.Tests.{eqb-true, leb-true, leb-false, le-leb, eq-eqb, ne-eqb}
 use borrow.Table.Steps.{cases}
 use Rattle.geometry.proofs.Tests.{both, and-yes}
@@ -21,11 +21,9 @@ use Rattle.register_write.specs.Registers.{inRange, isId, effectOf, ringAsked, 
 use Rattle.register_write.proofs.Effects.{is, only-own, effect-well-formed, id-stored, id-foreign}
 use Rattle.register_write.proofs.Kept.{Went, outside, effected, other-length, unusable, accepts, went, by-written, effect-taken}
 use Rattle.register_read.specs.Registers.{writableValue, readBy, readOf}
+use Rattle.register_read.specs.Negotiation.{idOf, negotiated}
 
 -- ---- the stored id
-
-abbrev pub idOf : Device → ℕ
-idOf d = d .registers .id
 
 effect-id-kept : (d : Device) (v : ℕ) (w : Writable) → isId (idOf d) ≡ true → isId (idOf (effectOf d v w)) ≡ true
 effect-id-kept d v w i =
@@ -63,18 +61,6 @@ unfolding readOf readBy writableValue registerOf numbers
 id-reads d m = rw m
 
 -- ---- the loop
-
-pub record Negotiated : Type 0 where
-  pub agreed : Option ℕ
-  pub device : Device
-
--- The source text's loop: "Write into SVGA_REG_ID the maximum SVGA_ID_* the driver supports. Read from SVGA_REG_ID. Check if it is the value you
--- wrote. If yes, VMware SVGA device supports it. If no, decrement SVGA_ID_* and goto loop". At most so many times; none agreed on where the times run out.
-unfoldable pub negotiated : ℕ → Device → List ℕ → ℕ → Negotiated
-negotiated zero d ring v = record { agreed = none; device = d }
-negotiated (suc n) d ring v =
-    let e = written d ring 0 v .device in
-    cond (eqb (readOf e 0 .value) v) (record { agreed = some v; device = e }) (negotiated n e ring (v - 1))
 
 offer-taken : (n : ℕ) (d : Device) (ring : List ℕ) (v : ℕ) → wellFormed d ≡ true → isId v ≡ true → negotiated (suc n) d ring v ≡ record { agreed = some v; device = effectOf d v Id }
 unfolding negotiated

@@ -1,7 +1,7 @@
 -- What every register reads after a write of every other one, what the written one reads, and what a write does to the cursor plane.
 -- Assumes nothing.
 use mathlib.Core.Path.{_≡_, refl, sym, ap, _∙_}
-use mathlib.Core.Bool.{Bool, true, false, cond, not, _&&_, _||_}
+use mathlib.Core.Bool.{Bool, true, false, _&&_}
 use mathlib.Core.List.{List, [], _∷_, map}
 use Prim.Native.Nat.{ℕ}
 use native.Mathlib.Omega.{arith}
@@ -16,8 +16,8 @@ use Rattle.register.specs.declared.Register.the-variants.{Writes, Reads, Absent
 use Rattle.register.specs.declared.Writable.{Writable}
 use Rattle.register.specs.declared.Writable.the-variants.{Id, Enable, Width, Height, ConfigDone, Sync, GuestId, CursorId, CursorX, CursorY, CursorOn}
 use Rattle.register.specs.declared.ReadOnly.the-variants.{Busy}
-use Rattle.register.specs.Numbers.{numbers, registerOf}
-use Rattle.register.proofs.ByNumber.{numberOf, table, by-number, same-number}
+use Rattle.register.specs.Numbers.{numbers, registerOf, numberOf}
+use Rattle.register.proofs.ByNumber.{table, by-number, same-number}
 use Rattle.device.specs.declared.Device.{Device}
 use Rattle.device.specs.Device.{wellFormed}
 use Rattle.register_write.specs.Answers.{WriteOutcome}
@@ -26,6 +26,7 @@ use Rattle.register_write.proofs.Effects.{is, changedBy, only-own, id-stored, i
 use Rattle.register_write.proofs.Kept.{Went, outside, effected, other-length, unusable, accepts, went, taken-effect, Left, same, changed, written-left, written-well-formed, part-kept}
 use Rattle.register_read.specs.Answers.{Reading}
 use Rattle.register_read.specs.Registers.{writableValue, readOnlyValue, readBy, readOf}
+use Rattle.register_read.specs.AfterWrites.{affected, has, affects, stored}
 
 -- what the whole table reads
 abbrev readings : Device → List Reading
@@ -39,28 +40,6 @@ unfolding readBy
 read-at d r = ap (readBy d) (sym (by-number r .1)) ∙ sym (List·getD-map (readBy d) table (numberOf r) Absent)
 
 -- ---- what a write changes
-
--- the registers whose reading a write can change: its own, and WIDTH: BYTES_PER_LINE, FB_SIZE; HEIGHT: FB_SIZE; ENABLE, CONFIG_DONE and
--- SYNC: BUSY. SYNC itself always reads 0.
-abbrev pub affected : Writable → List ℕ
-affected Id = 0 ∷ []
-affected Enable = 1 ∷ 22 ∷ []
-affected Width = 2 ∷ 12 ∷ 16 ∷ []
-affected Height = 3 ∷ 16 ∷ []
-affected ConfigDone = 20 ∷ 22 ∷ []
-affected Sync = 22 ∷ []
-affected GuestId = 23 ∷ []
-affected CursorId = 24 ∷ []
-affected CursorX = 25 ∷ []
-affected CursorY = 26 ∷ []
-affected CursorOn = 27 ∷ []
-
-abbrev pub has : ℕ → List ℕ → Bool
-has j [] = false
-has j (n ∷ ns) = eqb j n || has j ns
-
-abbrev pub affects : Writable → Register → Bool
-affects w r = has (numberOf r) (affected w)
 
 -- l with the elements at ns taken from m
 abbrev stores : List ℕ → List Reading → List Reading → List Reading
@@ -135,10 +114,6 @@ pub value-kept : (d : Device) (ring : List ℕ) (i v : ℕ) (r : Writable) → (
 value-kept d ring i v r n =
     part-kept (λ (x : Device). writableValue (x .registers) r) d ring i v
     (λ w q e. value-changed d e w r (ne-eqb _ _ (λ s. n (q ∙ ap Writes (same-number w r s)))))
-
--- a value that is read back once it is taken: not that of SYNC, and of ID one of the three
-abbrev pub stored : Writable → ℕ → Bool
-stored w v = cond (is w Id) (isId v) (not (is w Sync))
 
 effect-back : (d : Device) (v : ℕ) (w : Writable) → inRange w v ≡ true → ringAsked w v ≡ false → stored w v ≡ true → writableValue (effectOf d v w .registers) w ≡ v
 unfolding writableValue

@@ -1,2 +1,4 @@
 pub mod Answers
 pub mod Registers
+pub mod AfterWrites
+pub mod Negotiation

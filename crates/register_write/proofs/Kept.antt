@@ -17,8 +17,8 @@ use Rattle.register.specs.declared.Register.{Register}
 use Rattle.register.specs.declared.Register.the-variants.{Writes, Reads, Absent}
 use Rattle.register.specs.declared.Writable.{Writable}
 use Rattle.register.specs.declared.Writable.the-variants.{Id, Enable, Width, Height, ConfigDone, Sync, GuestId, CursorId, CursorX, CursorY, CursorOn}
-use Rattle.register.specs.Numbers.{registerOf}
-use Rattle.register.proofs.ByNumber.{numberOf, numbered}
+use Rattle.register.specs.Numbers.{registerOf, numberOf}
+use Rattle.register.proofs.ByNumber.{numbered}
 use Rattle.device.specs.declared.Device.{Device}
 use Rattle.device.specs.Device.{memoryOf, conditionGood, wellFormed}
 use Rattle.device.proofs.Kept.{parts}

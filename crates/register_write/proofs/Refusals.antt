@@ -11,7 +11,6 @@ use Rattle.ring.specs.Acceptance.{usable}
 use Rattle.ring.proofs.Laws.{refused-when}
 use Rattle.register.specs.declared.Register.{Register}
 use Rattle.register.specs.declared.Register.the-variants.{Writes, Reads, Absent}
-use Rattle.register.specs.declared.ReadOnly.{ReadOnly}
 use Rattle.register.specs.declared.Writable.{Writable}
 use Rattle.register.specs.declared.Writable.the-variants.{ConfigDone}
 use Rattle.register.specs.Numbers.{registerOf}
@@ -19,6 +18,7 @@ use Rattle.device.specs.declared.Device.{Device}
 use Rattle.device.specs.Device.{memoryOf, wellFormed}
 use Rattle.register_write.specs.Answers.{WriteOutcome}
 use Rattle.register_write.specs.Registers.{refused, inRange, ringAsked, acceptedWritten, ringWritten, writableWritten, writtenBy, written}
+use Rattle.register_write.specs.Rules.{Why, no-register, read-only, bad-value, wrong-length, ring-refused, is-taken}
 use Rattle.register_write.proofs.Kept.{Went, outside, effected, other-length, unusable, accepts, went, by-written, Left, same, changed, written-left}
 
 -- ---- "Answers 20 to 34 change nothing"
@@ -38,17 +38,6 @@ refused-changes-nothing d ring index v =
     by-written (λ (o : WriteOutcome). (o .answer ≡ 0 → ⊥) → o .device ≡ d) d ring v (λ a n z. refl) index (λ w q. left-refused d w (written-left d ring v w))
 
 -- ---- the answers of a write
-
--- Each number, and when a write to a well-formed device answers it.
-pub data Why (d : Device) (ring : List ℕ) (index v : ℕ) : ℕ → Type 0 where
-  no-register : registerOf index ≡ Absent → Why d ring index v 30
-  read-only : (r : ReadOnly) → registerOf index ≡ Reads r → Why d ring index v 31
-  bad-value : (w : Writable) → registerOf index ≡ Writes w → inRange w v ≡ false → Why d ring index v 32
-  wrong-length : registerOf index ≡ Writes ConfigDone → v ≡ 1 → (length ring ≡ memoryOf d / 4 → ⊥) → Why d ring index v 20
-  ring-refused : registerOf index ≡ Writes ConfigDone → v ≡ 1 → length ring ≡ memoryOf d / 4 → usable ring ≡ false
-      → Why d ring index v 33
-  is-taken : (w : Writable) → registerOf index ≡ Writes w → inRange w v ≡ true
-      → (w ≡ ConfigDone → v ≡ 1 → (length ring ≡ memoryOf d / 4) × (usable ring ≡ true)) → Why d ring index v 0
 
 module _ (d : Device) (ring : List ℕ) (v : ℕ) (index : ℕ) where
   -- CONFIG_DONE 1 is in its range, and asks for the ring

@@ -12,11 +12,11 @@ use lib.Seq.{getD-set-same, getD-set-other}
 use lib.Dec.{eqb}
 use borrow.Author.Tests.{eqb-true, eqb-false, eq-eqb, ne-eqb, lt-ltb, le-ltb, not-true, not-false}
 use borrow.Table.Steps.{cases}
-use Rattle.ring.specs.Acceptance.{minOf, maxOf, nextOf, stopOf, usable}
+use Rattle.ring.specs.Acceptance.{minOf, maxOf, nextOf, stopOf, usable, Usable}
 use Rattle.ring.specs.Waiting.{after, between, words, waiting, carried}
 use Rattle.ring.specs.declared.AppendAnswer.the-variants.{Taken, Refused}
 use Rattle.ring.specs.Append.{movedOn, canAppend, appendTo, appended, appendOf}
-use Rattle.ring.proofs.Laws.{Usable, usable-when, when-usable}
+use Rattle.ring.proofs.Laws.{usable-when, when-usable}
 use Rattle.ring.proofs.WaitingLaws.{words-outside, words-snoc, between-in, between-after, between-full, ahead-between, length-waiting}
 
 pub append-refused : (ring : List ℕ) (x : ℕ) → canAppend ring ≡ false → appendTo ring x ≡ ring

@@ -4,30 +4,15 @@
 use mathlib.Core.Path.{_≡_, refl, ap}
 use mathlib.Core.Bool.{Bool, true, false, cond, true≢false, and-eq-true-iff}
 use mathlib.Core.List.{List}
-use Prim.Native.Nat.{ℕ, _+_, _*_, _/_, _%_, _≤_, _<_}
+use Prim.Native.Nat.{ℕ, _+_, _*_, _/_, _≤_, _<_}
 use native.Mathlib.Omega.{arith}
 use lib.ListN.{length}
 use lib.Dec.{leb}
 use borrow.Author.Tests.{ltb-true, leb-true, eqb-true, lt-ltb, le-leb, eq-eqb}
 use Rattle.ring.specs.declared.Ring.{Ring}
 use Rattle.ring.specs.declared.Acceptance.the-variants.{Accepted, Refused}
-use Rattle.ring.specs.Acceptance.{minOf, maxOf, nextOf, stopOf, offsetUsable, boundsUsable, usable, accepted}
+use Rattle.ring.specs.Acceptance.{minOf, maxOf, stopOf, offsetUsable, boundsUsable, usable, Usable, accepted}
 use Rattle.ring.specs.Waiting.{placed}
-
--- document 01's conditions, in bytes
-pub record Usable (ring : List ℕ) : Type 0 where
-  pub there : 4 ≤ length ring
-  pub min-word : minOf ring % 4 ≡ 0
-  pub max-word : maxOf ring % 4 ≡ 0
-  pub next-word : nextOf ring % 4 ≡ 0
-  pub stop-word : stopOf ring % 4 ≡ 0
-  pub low : 16 ≤ minOf ring
-  pub fits : maxOf ring ≤ 4 * length ring
-  pub size : minOf ring + 10240 ≤ maxOf ring
-  pub next-low : minOf ring ≤ nextOf ring
-  pub next-high : nextOf ring < maxOf ring
-  pub stop-low : minOf ring ≤ stopOf ring
-  pub stop-high : stopOf ring < maxOf ring
 
 pub usable-when : (ring : List ℕ) → usable ring ≡ true → Usable ring
 unfolding usable boundsUsable offsetUsable

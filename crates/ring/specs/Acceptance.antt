@@ -1,5 +1,6 @@
 -- When ring words are accepted: document 01, "Registers", CONFIG_DONE 1.
-use Prim.Native.Nat.{ℕ, _+_, _*_, _/_, _%_}
+use Prim.Native.Nat.{ℕ, _+_, _*_, _/_, _%_, _≤_, _<_}
+use mathlib.Core.Path.{_≡_}
 use mathlib.Core.Bool.{Bool, cond, _&&_}
 use mathlib.Core.List.{List}
 use lib.Dec.{eqb, ltb, leb}
@@ -44,6 +45,25 @@ usable ring =
     leb 4 (length ring)
     && (boundsUsable (length ring) (minOf ring) (maxOf ring)
     && (offsetUsable (minOf ring) (maxOf ring) (nextOf ring) && offsetUsable (minOf ring) (maxOf ring) (stopOf ring)))
+
+-- The same for readers, condition by condition, in bytes: `ring/Laws.usable-when` and `ring/Laws.when-usable` say that the test passes exactly there.
+pub record Usable (ring : List ℕ) : Type 0 where
+  -- "Ring words 0 to 3 are MIN, MAX, NEXT_CMD, STOP": they are there
+  pub there : 4 ≤ length ring
+  -- "All are multiples of 4"
+  pub min-word : minOf ring % 4 ≡ 0
+  pub max-word : maxOf ring % 4 ≡ 0
+  pub next-word : nextOf ring % 4 ≡ 0
+  pub stop-word : stopOf ring % 4 ≡ 0
+  -- "MIN ≥ 16; MAX ≤ M; MAX − MIN ≥ 10,240"
+  pub low : 16 ≤ minOf ring
+  pub fits : maxOf ring ≤ 4 * length ring
+  pub size : minOf ring + 10240 ≤ maxOf ring
+  -- "NEXT_CMD and STOP lie from MIN to below MAX"
+  pub next-low : minOf ring ≤ nextOf ring
+  pub next-high : nextOf ring < maxOf ring
+  pub stop-low : minOf ring ≤ stopOf ring
+  pub stop-high : stopOf ring < maxOf ring
 
 -- "else 33. Accepted: MIN, MAX and STOP are remembered": here in words, a quarter of the bytes.
 unfoldable pub accepted : List ℕ → Acceptance

@@ -5,8 +5,8 @@ use mathlib.Core.Path.{_≡_, sym, _∙_}
 use mathlib.Core.Bool.{true}
 use native.Mathlib.Omega.{arith}
 use borrow.Author.Tests.{not-true, not-false, eq-eqb, ne-eqb}
-use Rattle.ring.specs.Acceptance.{usable}
-use Rattle.ring.proofs.Laws.{Usable, usable-when}
+use Rattle.ring.specs.Acceptance.{usable, Usable}
+use Rattle.ring.proofs.Laws.{usable-when}
 use Rattle.history.specs.Demand.{ringAtStart}
 use Rattle.history.proofs.ring_at_start.Statement.{statement}
 use Rattle.history.proofs.ring_at_start.Tie as tie

@@ -6,8 +6,8 @@ use native.Mathlib.Omega.{arith}
 use lib.ListN.{length-set}
 use borrow.Author.Needs.{needs}
 use borrow.Author.Tests.{not-true, not-false}
-use Rattle.ring.specs.Acceptance.{usable}
-use Rattle.ring.proofs.Laws.{Usable, usable-when}
+use Rattle.ring.specs.Acceptance.{usable, Usable}
+use Rattle.ring.proofs.Laws.{usable-when}
 use Rattle.ring.proofs.AppendLaws.{append-of-unusable, append-of-full, append-of-taken}
 use Rattle.ring.proofs.append.Statement.{statement}
 use Rattle.ring.proofs.append.Tie as tie

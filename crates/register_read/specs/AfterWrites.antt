@@ -1,0 +1,48 @@
+-- What registers read after a write, for readers: which readings a write can change, and which values are read back. Document 01, "Registers".
+use Prim.Native.Nat.{ℕ}
+use mathlib.Core.Bool.{Bool, true, false, _||_}
+use mathlib.Core.List.{List, [], _∷_}
+use lib.Dec.{eqb}
+use Rattle.register.specs.declared.Register.{Register}
+use Rattle.register.specs.declared.Writable.{Writable}
+use Rattle.register.specs.declared.Writable.the-variants.{Id, Enable, Width, Height, ConfigDone, Sync, GuestId, CursorId, CursorX, CursorY, CursorOn}
+use Rattle.register.specs.Numbers.{numberOf}
+use Rattle.register_write.specs.Registers.{isId}
+
+-- The registers whose reading a write can change: its own, "12 BYTES_PER_LINE 4·width", "16 FB_SIZE 4·width·height", and "22 BUSY", which "SYNC sets" and
+-- "Writing 0 to ENABLE or CONFIG_DONE clears". "SYNC reads 0", always.
+abbrev pub affected : Writable → List ℕ
+affected Id = 0 ∷ []
+affected Enable = 1 ∷ 22 ∷ []
+affected Width = 2 ∷ 12 ∷ 16 ∷ []
+affected Height = 3 ∷ 16 ∷ []
+affected ConfigDone = 20 ∷ 22 ∷ []
+affected Sync = 22 ∷ []
+affected GuestId = 23 ∷ []
+affected CursorId = 24 ∷ []
+affected CursorX = 25 ∷ []
+affected CursorY = 26 ∷ []
+affected CursorOn = 27 ∷ []
+
+abbrev pub has : ℕ → List ℕ → Bool
+has j [] = false
+has j (n ∷ ns) = eqb j n || has j ns
+
+-- Whether a write to w can change what the register r reads.
+abbrev pub affects : Writable → Register → Bool
+affects w r = has (numberOf r) (affected w)
+
+-- "Each reads back the value last taken, ID and SYNC as said": whether a value that is taken is read back. "0 ID (0x90000000, ..01, ..02 are stored; any other
+-- value is taken and changes nothing ..)". "SYNC reads 0."
+abbrev pub stored : Writable → ℕ → Bool
+stored Id v = isId v
+stored Sync v = false
+stored Enable v = true
+stored Width v = true
+stored Height v = true
+stored ConfigDone v = true
+stored GuestId v = true
+stored CursorId v = true
+stored CursorX v = true
+stored CursorY v = true
+stored CursorOn v = true
