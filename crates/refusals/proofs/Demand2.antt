@@ -17,10 +17,9 @@ use borrow.Author.Tests.{eqb-true, eqb-false, leb-true, le-leb, lt-leb}
 use borrow.Table.Steps.{cases}
 use Rattle.geometry.proofs.Tests.{by-cond, not-both}
 use Rattle.execution.specs.declared.Cause.{Cause}
-use Rattle.execution.specs.declared.Cause.the-variants.{NotOffered, BadOperand, TooLong}
+use Rattle.execution.specs.declared.Cause.the-variants.{NotOffered, BadOperand, TooLong, BadNext}
 use Rattle.execution.specs.declared.End.the-variants.{Drained, Waiting, Fault}
-use Rattle.execution.specs.Straight.{causeNumber, Turn, ends, exec, whole, ending}
-use Rattle.execution.specs.Claim.{answerNumber, verdict}
+use Rattle.execution.specs.Straight.{causeNumber, Turn, ends, exec}
 use Rattle.ring.specs.declared.Ring.{Ring}
 use Rattle.ring.specs.Acceptance.{minOf, maxOf, nextOf, stopOf, usable}
 use Rattle.ring.specs.Waiting.{carried, nextGood}
@@ -32,9 +31,10 @@ use Rattle.register.specs.Numbers.{registerOf}
 use Rattle.command.specs.declared.Action.{Action}
 use Rattle.effect.specs.Effects.{Machine, done}
 use Rattle.run.specs.Run.{knownOf, runIn}
+use Rattle.device.specs.declared.Condition.{Condition}
 use Rattle.device.specs.declared.Condition.the-variants.{Faulted}
 use Rattle.device.specs.declared.Device.{Device}
-use Rattle.device.specs.Device.{pixelsOf, widthOf, heightOf, conditionOf, sizesGood, modeFits, wellFormed}
+use Rattle.device.specs.Device.{pixelsOf, widthOf, heightOf, conditionOf, sizesGood, modeFits, wellFormed, withBusy, withCondition}
 use Rattle.device.specs.Making.{Creation, madeOf}
 use Rattle.register_write.specs.Answers.{WriteOutcome}
 use Rattle.register_read.specs.Answers.{Reading}
@@ -42,19 +42,19 @@ use Rattle.adapter.specs.Picture.{Pictured, pictureOf}
 use Rattle.register_read.specs.Registers.{readBy, readOf}
 use Rattle.register_write.specs.Registers.{written}
 use Rattle.register_write.specs.Rules.{no-register, read-only, bad-value, wrong-length, ring-refused, is-taken}
-use Rattle.device_run.specs.Run.{Lent, RunOutcome, machineOf, sceneFor, lineOf, turnFor, ran, refusedRun, runBy, runOf}
+use Rattle.device_run.specs.Run.{Lent, RunOutcome, conditionAfter, busyAfter, machineOf, sceneFor, turnFor, ran, refusedRun, runBy, runOf}
 use Rattle.device.proofs.Kept.{make-refused}
 use Rattle.register_write.proofs.Refusals as WriteRefusals
 use Rattle.register_read.proofs.Refusals as ReadRefusals
 use Rattle.adapter.proofs.Refusals as PictureRefusals
 use Rattle.device_run.proofs.RunLaws.{run-by}
 use Rattle.refusals.specs.Refusing.{isRefusal, Sizes, Make34, Write30, Write31, Write32, Write20, Write33, Write0, Read30}
-use Rattle.refusals.specs.Refusing.{Run20, Run22, Run21, Run24, Run23, Starts, NextUsable, PictureLent, Picture20, Picture24, Append1}
+use Rattle.refusals.specs.Refusing.{Run20, Run22, Run21, Run24, Run23, Starts, NextUsable, RunLeaves, PictureLent, Picture20, Picture24, Append1}
 use Rattle.refusals.specs.Refusing.{Turn0, Turn10, HeadMissing, HeadBad, Turn12, WordsMissing, OperandBad, Executes}
 use Rattle.refusals.proofs.Reasons.{fails, sizes-good, ring-usable, not-usable, picture-lent, next-usable, ranged}
-use Rattle.refusals.proofs.Reasons.{stops-2, run-stops, run-next-unusable-count, fault-after, ring-carries}
+use Rattle.refusals.proofs.Reasons.{stops-2, run-stops, run-none, run-unusable, run-straight, fault-after, ring-carries}
 use Rattle.refusals.proofs.Reasons as Reasons
-use Rattle.refusals.proofs.Rules.{write-why, ended-taken, is-lent, not-lent, start, start-fits, start-ended, by-refusals, run-why}
+use Rattle.refusals.proofs.Rules.{write-why, ended-taken, is-lent, not-lent, start, start-fits, start-ended, ran-leaves, leaves-one, by-refusals, run-why}
 use Rattle.refusals.proofs.Rules.{turn-why, finds-0, finds-10, finds-1, finds-11, finds-12, finds-command}
 
 not-zero : {a : ℕ} → isRefusal a ≡ true → a ≡ 0 → ⊥
@@ -252,21 +252,31 @@ module _ (d : Device) (l : Lent) (budget : ℕ) where
         let w = Reasons.run-13 _ g budget (l .ring) (machineOf d l) (start-fits d l m g budget s) (ring-carries d m g (s .1) (s .4)) in
         rw run-starts (λ e. let x = w .0 e in (u .0 (x .0), x .1), λ x. w .1 (u .1 (x .0), x .1))
 
-    pub run-13-count : run .answer ≡ 13 → run .count ≡ 0
-    run-13-count e =
-        let u = fails (nextGood g (nextOf (l .ring))) (next-usable g (nextOf (l .ring))) in
-        rw run-starts
-        (run-next-unusable-count _ g budget (l .ring) (machineOf d l) (start-fits d l m g budget s) (u .1 (run-13 .0 e .0)))
+    -- "A fault consumes nothing of its command and stands": nothing is counted, the fault is remembered, BUSY is cleared; all else is as it was
+    pub run-13-leaves : (¬ NextUsable g (nextOf (l .ring))) → (¬ (budget ≡ 0))
+        → run ≡ record { answer = 13; count = 0; device = withBusy (withCondition d (Faulted BadNext)) false; lent = l }
+    unfolding conditionAfter busyAfter
+    run-13-leaves n b =
+        let bad = fails (nextGood g (nextOf (l .ring))) (next-usable g (nextOf (l .ring))) .1 n in
+        rw (run-starts, run-unusable (sceneFor d l) g budget (l .ring) (machineOf d l) (start-fits d l m g budget s) bad b) refl
 
-    -- "a run of budget b answers as count c the smaller of b and the number of those steps. Its number is 2 if c = b, else the answer that ends straight
-    -- execution there": 0, 1, 10, 11 or 12
-    pub run-count : NextUsable g (nextOf (l .ring))
-        → (run .count ≡ min budget (whole (turnFor d l g) (lineOf d l g)))
-        × (run .answer ≡ answerNumber (verdict (eqb (run .count) budget) (ending (turnFor d l g) (lineOf d l g))))
-    run-count u =
+    -- "budget used up: 2" comes first: with no budget nothing changes, whatever NEXT_CMD is
+    pub run-no-budget : budget ≡ 0 → run ≡ record { answer = 2; count = 0; device = d; lent = l }
+    unfolding conditionAfter busyAfter
+    run-no-budget z =
+        rw (run-starts, run-none (sceneFor d l) g budget (l .ring) (machineOf d l) (start-fits d l m g budget s) z)
+        (ap (λ (c : Condition). record { answer = 2; count = 0; device = withCondition d c; lent = l }) (sym (s .4)))
+
+    -- where NEXT_CMD is usable: what it answers, counts and leaves, by straight execution alone
+    pub run-leaves : NextUsable g (nextOf (l .ring)) → RunLeaves d l g budget run
+    run-leaves u =
         let good = next-usable g (nextOf (l .ring)) .1 u in
-        let w = Reasons.run-many _ g budget (l .ring) (machineOf d l) (start-fits d l m g budget s) good (ring-carries d m g (s .1) (s .4)) in
-        rw run-starts (w .0, ap answerNumber (w .1))
+        let w = run-straight (sceneFor d l) g budget (l .ring) (machineOf d l) (start-fits d l m g budget s) good (ring-carries d m g (s .1) (s .4)) in
+        rw (run-starts, w .0) (ran-leaves d l g budget _ (w .1))
+
+    -- and nothing else meets that
+    pub run-leaves-only : NextUsable g (nextOf (l .ring)) → (o : RunOutcome) → RunLeaves d l g budget o → o ≡ run
+    run-leaves-only u o x = leaves-one d l g budget x (run-leaves u)
 
     -- "A fault .. stands until CONFIG_DONE 1 is accepted": one stands after the run exactly when the run answered it, and has that number
     pub run-fault : (c : Cause) → (conditionOf (run .device) ≡ Faulted c) ↔ (run .answer ≡ causeNumber c)

@@ -6,8 +6,7 @@ use mathlib.Core.List.{List}
 use mathlib.Core.Logic.{_↔_, _⊎_, inl, inr, ⊎-elim}
 use Prim.Native.Nat.{ℕ, zero, suc, _*_, _/_, _%_, _≤_, _<_, min}
 use native.Mathlib.Omega.{arith}
-use native.Mathlib.Nat.{zero-min, min-zero, suc-min-suc}
-use lib.Dec.{eqb, leb, eqb·zero-suc, eqb·suc-suc}
+use lib.Dec.{eqb, leb}
 use lib.ListN.{length}
 use borrow.Author.Tests.{eqb-true, leb-true, ltb-true, eq-eqb, ne-eqb, le-leb, lt-ltb}
 use borrow.Table.Steps.{cases}
@@ -16,12 +15,11 @@ use Rattle.execution.specs.declared.Cause.{Cause}
 use Rattle.execution.specs.declared.Cause.the-variants.{NotOffered, BadOperand, TooLong, BadNext}
 use Rattle.execution.specs.declared.End.{End}
 use Rattle.execution.specs.declared.End.the-variants.{Drained, Waiting, Fault}
-use Rattle.execution.specs.Straight.{causeNumber, endNumber, Turn, ends, exec, Line, beyond, next, whole, ending}
+use Rattle.execution.specs.Straight.{causeNumber, endNumber, Turn, ends, exec, Line, beyond, next}
 use Rattle.execution.specs.Table.{unless, turnOf}
-use Rattle.execution.specs.Claim.{Answer, spent, standing, ended, answerNumber, verdict}
+use Rattle.execution.specs.Claim.{Answer, spent, standing, ended, answerNumber}
 use Rattle.execution.specs.Turns.{runs}
-use Rattle.execution.proofs.Laws.{Laws, whole-exec, whole-ends, ending-exec, ending-ends}
-use Rattle.execution.proofs.QueueLaws.{runs-ends, runs-exec}
+use Rattle.execution.proofs.QueueLaws.{runs-ends, runs-exec, RunsRight, run-right}
 use Rattle.ring.specs.declared.Ring.{Ring}
 use Rattle.ring.specs.Waiting.{waiting, carried, placed, nextGood}
 use Rattle.ring.specs.Acceptance.{usable, Usable, nextOf}
@@ -32,7 +30,7 @@ use Rattle.command.proofs.Laws.{command-laws}
 use Rattle.effect.specs.Effects.{Scene, Machine, done}
 use Rattle.run.specs.Turns.{viewOf}
 use Rattle.run.specs.Run.{knownOf, table, turnIn, left, runWords, nextUnusable, fitting, runIn}
-use Rattle.run.proofs.RunLaws.{run-next-unusable, run-good}
+use Rattle.run.proofs.RunLaws.{fitting-placed, left-same, run-next-unusable, run-good}
 use Rattle.device.specs.declared.Condition.the-variants.{Idle, Running, Faulted}
 use Rattle.device.specs.declared.Device.{Device}
 use Rattle.device.specs.Device.{memoryOf, pixelsOf, configuredOf, conditionOf, sizesGood, conditionGood, wellFormed}
@@ -131,28 +129,32 @@ cause-range BadOperand = (omega arith, omega arith)
 cause-range TooLong = (omega arith, omega arith)
 cause-range BadNext = (omega arith, omega arith)
 
-causeOf : ℕ → Cause
-causeOf n = cond (eqb n 10) NotOffered (cond (eqb n 11) BadOperand (cond (eqb n 12) TooLong BadNext))
+endFor : ℕ → End
+endFor n =
+    cond (eqb n 0) Drained
+    (cond (eqb n 1) Waiting
+    (cond (eqb n 10) (Fault NotOffered) (cond (eqb n 11) (Fault BadOperand) (cond (eqb n 12) (Fault TooLong) (Fault BadNext)))))
 
-cause-of : (c : Cause) → causeOf (causeNumber c) ≡ c
-unfolding causeOf
-cause-of NotOffered = refl
-cause-of BadOperand = refl
-cause-of TooLong = refl
-cause-of BadNext = refl
+end-for : (e : End) → endFor (endNumber e) ≡ e
+unfolding endFor
+end-for Drained = refl
+end-for Waiting = refl
+end-for (Fault NotOffered) = refl
+end-for (Fault BadOperand) = refl
+end-for (Fault TooLong) = refl
+end-for (Fault BadNext) = refl
 
-pub same-cause : (a b : Cause) → causeNumber a ≡ causeNumber b → a ≡ b
-same-cause a b e = sym (cause-of a) ∙ ap causeOf e ∙ cause-of b
+-- ends with one number are one
+pub same-end : (a b : End) → endNumber a ≡ endNumber b → a ≡ b
+same-end a b e = sym (end-for a) ∙ ap endFor e ∙ end-for b
+
+same-cause : (a b : Cause) → causeNumber a ≡ causeNumber b → a ≡ b
+same-cause a b e = let q : Fault a ≡ Fault b = same-end (Fault a) (Fault b) e in cc
 
 end-number : (e : End) → (endNumber e ≤ 1) ⊎ ((10 ≤ endNumber e) × (endNumber e ≤ 13))
 end-number Drained = inl (omega arith)
 end-number Waiting = inl (omega arith)
 end-number (Fault c) = inr (cause-range c)
-
-end-13 : (e : End) → endNumber e ≡ 13 → e ≡ Fault BadNext
-end-13 Drained h = absurd (omega arith)
-end-13 Waiting h = absurd (omega arith)
-end-13 (Fault c) h = ap Fault (same-cause c BadNext h)
 
 -- ---- how the turns of a run end
 
@@ -189,24 +191,7 @@ module _ {S : Type 0} (turn : S → List ℕ → Turn S) where
   -- only a turn that finds 13 answers it
   pub stops-13 : {b c : ℕ} {a : Answer} → ((s : S) (w : List ℕ) → turn s w ≡ ends (Fault BadNext) → ⊥) → Stops turn b a c → answerNumber a ≡ 13 → ⊥
   stops-13 not-13 (spends n) z = omega arith
-  stops-13 not-13 (stops n k e s w h q) z = not-13 s w (q ∙ ap ends (end-13 e z))
-
--- the count is the smaller of the budget and the steps that still execute; the number is 2 if that is the budget, else the answer that ends them
-pub runs-many : {S : Type 0} (turn : S → List ℕ → Turn S) {cap : ℕ} → Laws cap turn → (b : ℕ) (a : Line S)
-    → (runs turn b a .count ≡ min b (whole turn a)) × (runs turn b a .answer ≡ verdict (eqb (runs turn b a .count) b) (ending turn a))
-unfolding runs verdict
-runs-many turn laws zero a = (sym (zero-min (whole turn a)), refl)
-runs-many turn laws (suc b) a = go (next turn a) refl (λ n s. runs-many turn laws b (beyond a n s))
-  where
-    go : (t : Turn _) → next turn a ≡ t
-        → ((n : ℕ) (s : _) → (runs turn b (beyond a n s) .count ≡ min b (whole turn (beyond a n s)))
-        × (runs turn b (beyond a n s) .answer ≡ verdict (eqb (runs turn b (beyond a n s) .count) b) (ending turn (beyond a n s))))
-        → (runs turn (suc b) a .count ≡ min (suc b) (whole turn a))
-        × (runs turn (suc b) a .answer ≡ verdict (eqb (runs turn (suc b) a .count) (suc b)) (ending turn a))
-    go (ends e) q ih = rw (runs-ends turn b a e q, whole-ends turn laws a e q) (sym (min-zero (suc b)), rw (eqb·zero-suc, ending-ends turn laws a e q))
-    go (exec n s) q ih =
-        rw (runs-exec turn b a n s q, whole-exec turn laws a n s q)
-        (rw suc-min-suc (ap suc (ih n s .0)), rw (eqb·suc-suc, ending-exec turn laws a n s q) (ih n s .1))
+  stops-13 not-13 (stops n k e s w h q) z = not-13 s w (q ∙ ap ends (same-end e (Fault BadNext) z))
 
 -- ---- a run of a ring that lies in its memory
 
@@ -225,8 +210,18 @@ module _ (s : Scene) (g : Ring) (budget : ℕ) (ring : List ℕ) (m : Machine) (
   unfolding turnIn unless
   turn-13 good h n w q = command-laws knownOf (done s) (carried (g .min) (g .max)) h .not-13 n w (rw good at q)
 
-  pub run-next-unusable-count : nextGood g (nextOf ring) ≡ false → runIn s g budget ring m .count ≡ 0
-  run-next-unusable-count bad = rw (run-next-unusable s g budget ring m fits bad)
+  -- with no budget it does nothing, whatever NEXT_CMD is
+  pub run-none : budget ≡ 0 → runIn s g budget ring m ≡ record { answer = spent; count = 0; place = g; ring = ring; machine = m }
+  unfolding runIn runWords runs
+  run-none z =
+      let p = placed-when g (length ring) (fitting-placed g _ _ fits) in
+      rw (z, fits) (left-same g ring (waiting ring (g .min) (g .max) (g .stop) (nextOf ring / 4)) spent m (p .below))
+
+  -- with budget, where NEXT_CMD is unusable, it is a fault and does nothing else
+  pub run-unusable : nextGood g (nextOf ring) ≡ false → (¬ (budget ≡ 0))
+      → runIn s g budget ring m ≡ record { answer = ended (Fault BadNext); count = 0; place = g; ring = ring; machine = m }
+  unfolding nextUnusable
+  run-unusable bad b = run-next-unusable s g budget ring m fits bad ∙ rw (ne-eqb budget 0 b) refl
 
   pub run-13 : 10 ≤ carried (g .min) (g .max) → (answerNumber (runIn s g budget ring m .answer) ≡ 13) ↔ ((nextGood g (nextOf ring) ≡ false) × (¬ (budget ≡ 0)))
   run-13 h =
@@ -236,15 +231,16 @@ module _ (s : Scene) (g : Ring) (budget : ℕ) (ring : List ℕ) (m : Machine) (
       let answer : answerNumber (runIn s g budget ring m .answer) ≡ answerNumber (nextUnusable budget) = rw (run-next-unusable s g budget ring m fits bad) in
       (λ e. (bad, next-unusable-13 budget .0 (sym answer ∙ e)), λ x. answer ∙ next-unusable-13 budget .1 (x .1)))
 
-  pub run-many : nextGood g (nextOf ring) ≡ true → 10 ≤ carried (g .min) (g .max)
+  -- where NEXT_CMD is usable it is straight execution's turns, and those are right
+  pub run-straight : nextGood g (nextOf ring) ≡ true → 10 ≤ carried (g .min) (g .max)
       → let a : Line Machine = record { words = waiting ring (g .min) (g .max) (g .stop) (nextOf ring / 4); machine = m } in
       let turn : Machine → List ℕ → Turn Machine = turnOf (carried (g .min) (g .max)) (table s) in
-      (runIn s g budget ring m .count ≡ min budget (whole turn a))
-      × (runIn s g budget ring m .answer ≡ verdict (eqb (runIn s g budget ring m .count) budget) (ending turn a))
+      (runIn s g budget ring m ≡ left g ring (a .words) (runs turn budget a)) × RunsRight turn budget a (runs turn budget a)
   unfolding runWords left waiting
-  run-many good h =
-      rw (← run-good s g budget ring m (viewOf g (nextOf ring)) fits good refl)
-      (runs-many _ (command-laws knownOf (done s) (carried (g .min) (g .max)) h) budget _)
+  run-straight good h = (
+    sym (run-good s g budget ring m (viewOf g (nextOf ring)) fits good refl),
+    run-right _ (command-laws knownOf (done s) (carried (g .min) (g .max)) h) budget _,
+  )
 
 -- "A fault .. stands": the condition after an answer
 pub fault-after : (a : Answer) (g : Ring) (c : Cause) → (conditionAfter a g ≡ Faulted c) ↔ (answerNumber a ≡ causeNumber c)

@@ -1,10 +1,10 @@
 -- The rule of each number that a register write or a run answers, as one family: an answer's rule holds.
 -- Assumes nothing.
-use mathlib.Core.Path.{_≡_, refl, subst}
+use mathlib.Core.Path.{_≡_, refl, sym, ap, subst, _∙_}
 use mathlib.Core.Bool.{true, false, cond}
 use mathlib.Core.List.{List}
 use mathlib.Core.Logic.{_≢_, _↔_, _⊎_, inl, inr, ⊎-elim}
-use Prim.Native.Nat.{ℕ, _*_, _≤_}
+use Prim.Native.Nat.{ℕ, _*_, _≤_, min}
 use native.Mathlib.Omega.{arith}
 use lib.Dec.{eqb}
 use lib.ListN.{length, take}
@@ -13,24 +13,29 @@ use borrow.Table.Steps.{cases}
 use Rattle.geometry.proofs.Tests.{by-cond, not-both}
 use Rattle.execution.specs.declared.Cause.the-variants.{NotOffered, BadOperand, TooLong, BadNext}
 use Rattle.execution.specs.declared.End.the-variants.{Drained, Waiting, Fault}
-use Rattle.execution.specs.Straight.{Turn, ends, exec}
+use Rattle.execution.specs.Straight.{Turn, ends, exec, Line}
 use Rattle.execution.specs.Table.{turnOf}
-use Rattle.execution.specs.Claim.{answerNumber}
+use Rattle.execution.specs.Claim.{Answer, answerNumber}
+use Rattle.execution.specs.Turns.{LineRun}
+use Rattle.execution.proofs.Laws.{goes-steps, goes-straight}
+use Rattle.execution.proofs.QueueLaws.{RunsRight}
 use Rattle.ring.specs.declared.Ring.{Ring}
 use Rattle.command.specs.declared.Action.{Action}
 use Rattle.command.specs.Commands.{Known, entry, sizeBy, kindIn, commands}
 use Rattle.command.proofs.Rules.{Ruled, foreign, no-head, bad-head, long, no-rest, bad, well, ruled, by-rule, turn-none}
-use Rattle.run.specs.Run.{RingOutcome, fitting, runIn}
+use Rattle.effect.specs.Effects.{Machine}
+use Rattle.run.specs.Run.{RingOutcome, stamped, left, fitting, runIn}
 use Rattle.device.specs.declared.Condition.{Condition}
 use Rattle.device.specs.declared.Condition.the-variants.{Idle, Running, Faulted}
 use Rattle.device.specs.declared.Device.{Device}
 use Rattle.device.specs.Device.{pixelsOf, widthOf, heightOf, enabledOf, configuredOf, conditionOf, modeFits, wellFormed}
 use Rattle.register_write.specs.Registers.{written}
-use Rattle.device_run.specs.Run.{Lent, RunOutcome, lentGood, machineOf, sceneFor, ran, refusedRun, runBy, runOf}
+use Rattle.device_run.specs.Run.{Lent, RunOutcome, lentGood, conditionAfter, busyAfter, machineOf, sceneFor, lineOf, turnFor, ran, refusedRun, runBy, runOf}
 use Rattle.register_write.specs.Rules.{Why, no-register, read-only, bad-value, wrong-length, ring-refused, is-taken}
 use Rattle.register_write.proofs.Refusals.{why}
 use Rattle.device_run.proofs.RunLaws.{run-by}
 use Rattle.refusals.specs.Refusing.{isRefusal, Write30, Write31, Write32, Write20, Write33, Write0, RunLent, Run20, Run22, Run21, Run24, Run23, Starts}
+use Rattle.refusals.specs.Refusing.{leftBy, passedBy, wholeWaiting, answerBy, RunLeaves}
 use Rattle.refusals.specs.Refusing.{Turn0, Turn10, HeadMissing, HeadBad, Turn12, WordsMissing, OperandBad, Executes}
 use Rattle.refusals.proofs.Reasons.{fails, ring-usable, not-usable, lent-good, ranged}
 use Rattle.refusals.proofs.Reasons.{stops-numbers, run-stops, not-idle, ring-fits}
@@ -90,6 +95,71 @@ module _ (d : Device) (l : Lent) where
 
     pub start-ended : Ended (answerNumber (started g budget .answer))
     start-ended = stops-numbers _ (run-stops _ g budget (l .ring) (machineOf d l) start-fits)
+
+  -- where the turns of a run are right, it leaves what straight execution does
+  pub ran-leaves : (g : Ring) (budget : ℕ) (r : LineRun Machine) → RunsRight (turnFor d l g) budget (lineOf d l g) r
+      → RunLeaves d l g budget (ran d l (left g (l .ring) (lineOf d l g .words) r))
+  unfolding left
+  ran-leaves g budget r x =
+      let there = goes-straight (turnFor d l g) (x .goes) in
+      let answered = x .right-answer in
+      record {
+        count = x .many;
+        executes = goes-steps (turnFor d l g) (x .goes);
+        machine = ap (λ (a : Line Machine). a .machine) (sym there);
+        ring = rw there refl;
+        framebuffer = refl;
+        answer = ap answerNumber answered;
+        condition = rw (there, ← answered) refl;
+        busy = ap (λ (a : Answer). busyAfter a (d .busy)) answered;
+        sizes = refl;
+        registers = refl;
+        plane = refl;
+      }
+
+  module _ (g : Ring) (budget : ℕ) where
+    -- the outcome whose count is k
+    outcomeOf : ℕ → RunOutcome
+    outcomeOf k = record {
+      answer = answerNumber (answerBy d l g budget k);
+      count = k;
+      device = record {
+        sizes = d .sizes;
+        registers = d .registers;
+        plane = d .plane;
+        marks = leftBy d l g k .machine .marks;
+        busy = busyAfter (answerBy d l g budget k) (d .busy);
+        condition = conditionAfter (answerBy d l g budget k) (passedBy d l g k);
+      };
+      lent = record {
+        ring = cond (eqb k 0) (l .ring) (stamped (passedBy d l g k .stop) (l .ring));
+        framebuffer = l .framebuffer;
+        screen = leftBy d l g k .machine .screen;
+        cursor = leftBy d l g k .machine .cursor;
+      };
+    }
+
+    leaves-is : {o : RunOutcome} → RunLeaves d l g budget o → o ≡ outcomeOf (min budget (wholeWaiting d l g))
+    unfolding outcomeOf
+    leaves-is {o} x =
+        let same : o ≡ outcomeOf (o .count) = λ i. record {
+          answer = x .answer i;
+          count = o .count;
+          device = record {
+            sizes = x .sizes i;
+            registers = x .registers i;
+            plane = x .plane i;
+            marks = x .machine i .marks;
+            busy = x .busy i;
+            condition = x .condition i;
+          };
+          lent = record { ring = x .ring i; framebuffer = x .framebuffer i; screen = x .machine i .screen; cursor = x .machine i .cursor };
+        } in
+        same ∙ ap outcomeOf (x .count)
+
+    -- what a run leaves is left open in nothing
+    pub leaves-one : {o p : RunOutcome} → RunLeaves d l g budget o → RunLeaves d l g budget p → o ≡ p
+    leaves-one x y = leaves-is x ∙ sym (leaves-is y)
 
   module _ (budget : ℕ) where
     -- a run by its refusals, in document 01's order

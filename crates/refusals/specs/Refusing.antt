@@ -1,13 +1,15 @@
 -- When document 01 refuses a call: for each call and each number its rule, and that no rule that is checked before it holds.
 -- A device is one that calls have made. Lengths are in words; M and P are what the device was made for.
 use mathlib.Core.Path.{_≡_}
-use mathlib.Core.Bool.{Bool, true, false, _&&_}
+use mathlib.Core.Bool.{Bool, true, false, cond, _&&_}
 use mathlib.Core.List.{List}
 use mathlib.Core.Logic.{_⊎_}
-use Prim.Native.Nat.{ℕ, _*_, _/_, _%_, _≤_, _<_}
-use lib.Dec.{leb}
+use Prim.Native.Nat.{ℕ, _-_, _*_, _/_, _%_, _≤_, _<_, min}
+use lib.Dec.{eqb, leb}
 use lib.ListN.{length}
 use Rattle.execution.specs.declared.Cause.{Cause}
+use Rattle.execution.specs.Straight.{Line, steps, straight, whole, ending}
+use Rattle.execution.specs.Claim.{Answer, answerNumber, verdict}
 use Rattle.ring.specs.declared.Ring.{Ring}
 use Rattle.ring.specs.Acceptance.{minOf, maxOf, nextOf, stopOf, Usable}
 use Rattle.ring.specs.Append.{movedOn}
@@ -17,10 +19,12 @@ use Rattle.register.specs.declared.Writable.{Writable}
 use Rattle.register.specs.declared.Writable.the-variants.{Id, Enable, Width, Height, ConfigDone, Sync, GuestId, CursorId, CursorX, CursorY, CursorOn}
 use Rattle.register.specs.Numbers.{registerOf}
 use Rattle.command.specs.Commands.{Known, entry, sizeBy, kindIn}
+use Rattle.effect.specs.Effects.{Machine}
+use Rattle.run.specs.Run.{passed, stamped}
 use Rattle.device.specs.declared.Condition.the-variants.{Running, Faulted}
 use Rattle.device.specs.declared.Device.{Device}
 use Rattle.device.specs.Device.{memoryOf, pixelsOf, widthOf, heightOf, enabledOf, configuredOf, conditionOf}
-use Rattle.device_run.specs.Run.{Lent}
+use Rattle.device_run.specs.Run.{Lent, RunOutcome, conditionAfter, busyAfter, machineOf, lineOf, turnFor}
 
 -- "Answers 20 to 34 change nothing"
 unfoldable pub isRefusal : ℕ → Bool
@@ -127,6 +131,53 @@ module _ (d : Device) (l : Lent) where
 -- "NEXT_CMD not a multiple of 4 or outside the ring: 13." MIN and MAX are remembered in words, NEXT_CMD is in bytes.
 abbrev pub NextUsable : Ring → ℕ → Type 0
 NextUsable g next = (next % 4 ≡ 0) × (4 * g .min ≤ next) × (next < 4 * g .max)
+
+-- Where NEXT_CMD is usable: straight execution (`execution/Straight`) of the words that wait from the remembered STOP up to NEXT_CMD, `lineOf d l g`. They are
+-- any words: the ring may have been accepted with words in it, and the guest may have rewritten NEXT_CMD and every word.
+module _ (d : Device) (l : Lent) (g : Ring) where
+  -- what its first k steps leave
+  abbrev pub leftBy : ℕ → Line Machine
+  leftBy k = straight (turnFor d l g) k (lineOf d l g)
+
+  -- "the command is executed and its words dropped": how many words they drop
+  abbrev pub dropped : ℕ → ℕ
+  dropped k = length (lineOf d l g .words) - length (leftBy k .words)
+
+  -- "STOP passes it": the ring as it is remembered past them
+  abbrev pub passedBy : ℕ → Ring
+  passedBy k = passed g (dropped k)
+
+  -- "whole commands waiting are the steps that still execute"
+  abbrev pub wholeWaiting : ℕ
+  wholeWaiting = whole (turnFor d l g) (lineOf d l g)
+
+  -- "Its number is 2 if c = b, else the answer that ends straight execution there.", of a run with this budget and count
+  abbrev pub answerBy : ℕ → ℕ → Answer
+  answerBy b c = verdict (eqb c b) (ending (turnFor d l g) (lineOf d l g))
+
+-- What a run of this budget leaves that starts on the ring g, and answers, where NEXT_CMD is usable: all of it. "The run stops after a number of commands never
+-- above its budget": those that it counts are the first of the words that wait, executed straight through.
+pub record RunLeaves (d : Device) (l : Lent) (g : Ring) (budget : ℕ) (o : RunOutcome) : Type 0 where
+  -- "a run of budget b answers as count c the smaller of b and the number of those steps"
+  pub count : o .count ≡ min budget (wholeWaiting d l g)
+  -- "the first k steps all execute"
+  pub executes : steps (turnFor d l g) (o .count) (lineOf d l g) ≡ o .count
+  -- "all P screen words, all cursor words, the defined cursor and the fence are as those steps leave them"
+  pub machine : machineOf (o .device) (o .lent) ≡ leftBy d l g (o .count) .machine
+  -- "STOP passes it, ring word 3 is written. The run changes no other ring word, and none if it consumed nothing."
+  pub ring : o .lent .ring ≡ cond (eqb (o .count) 0) (l .ring) (stamped (passedBy d l g (o .count) .stop) (l .ring))
+  -- "framebuffer never"
+  pub framebuffer : o .lent .framebuffer ≡ l .framebuffer
+  -- 2, or 0, 1, 10, 11 or 12
+  pub answer : o .answer ≡ answerNumber (answerBy d l g budget (o .count))
+  -- "A fault consumes nothing of its command and stands"; where the answer is none, the ring is remembered with STOP past the commands
+  pub condition : conditionOf (o .device) ≡ conditionAfter (answerBy d l g budget (o .count)) (passedBy d l g (o .count))
+  -- "A run ending 0, 1 or in a fault clears it; one ending 2 keeps it."
+  pub busy : o .device .busy ≡ busyAfter (answerBy d l g budget (o .count)) (d .busy)
+  -- nothing else of the device changes
+  pub sizes : o .device .sizes ≡ d .sizes
+  pub registers : o .device .registers ≡ d .registers
+  pub plane : o .device .plane ≡ d .plane
 
 -- ---- one turn, "in this order", on the words w that wait in a ring that carries cap words: by their row of document 01's table, `entry (kindIn w)`
 

@@ -39,7 +39,7 @@ unfolding fitting
 fitting-placed g words image e = both (placed g words) _ e .0
 
 -- a run that ends in its first turn leaves all as it was
-left-same : (g : Ring) (ring words : List ℕ) (a : Claim.Answer) (m : Machine) → g .stop < g .max
+pub left-same : (g : Ring) (ring words : List ℕ) (a : Claim.Answer) (m : Machine) → g .stop < g .max
     → left g ring words (record { answer = a; count = 0; line = record { words = words; machine = m } })
     ≡ record { answer = a; count = 0; place = g; ring = ring; machine = m }
 unfolding left
