@@ -10,7 +10,7 @@ use mathlib.Core.Bool.{true, false, false≢true, true≢false}
 use mathlib.Core.List.{List}
 use mathlib.Core.Option.{none}
 use mathlib.Core.Logic.{_↔_, _⊎_, inl, inr, ⊎-elim, Iff·trans}
-use Prim.Native.Nat.{ℕ, _*_, _≤_, min}
+use Prim.Native.Nat.{ℕ, _*_, _≤_, _<_}
 use native.Mathlib.Omega.{arith}
 use lib.Dec.{eqb}
 use borrow.Author.Tests.{eqb-true, eqb-false, leb-true, le-leb, lt-leb}
@@ -18,8 +18,9 @@ use borrow.Table.Steps.{cases}
 use Rattle.geometry.proofs.Tests.{by-cond, not-both}
 use Rattle.execution.specs.declared.Cause.{Cause}
 use Rattle.execution.specs.declared.Cause.the-variants.{NotOffered, BadOperand, TooLong, BadNext}
+use Rattle.execution.specs.declared.End.{End}
 use Rattle.execution.specs.declared.End.the-variants.{Drained, Waiting, Fault}
-use Rattle.execution.specs.Straight.{causeNumber, Turn, ends, exec}
+use Rattle.execution.specs.Straight.{causeNumber, endNumber, Turn, ends, exec, Line}
 use Rattle.ring.specs.declared.Ring.{Ring}
 use Rattle.ring.specs.Acceptance.{minOf, maxOf, nextOf, stopOf, usable}
 use Rattle.ring.specs.Waiting.{carried, nextGood}
@@ -29,6 +30,7 @@ use Rattle.register.specs.declared.Register.{Register}
 use Rattle.register.specs.declared.Register.the-variants.{Writes, Reads, Absent}
 use Rattle.register.specs.Numbers.{registerOf}
 use Rattle.command.specs.declared.Action.{Action}
+use Rattle.command.proofs.Laws.{command-laws}
 use Rattle.effect.specs.Effects.{Machine, done}
 use Rattle.run.specs.Run.{knownOf, runIn}
 use Rattle.device.specs.declared.Condition.{Condition}
@@ -42,17 +44,17 @@ use Rattle.adapter.specs.Picture.{Pictured, pictureOf}
 use Rattle.register_read.specs.Registers.{readBy, readOf}
 use Rattle.register_write.specs.Registers.{written}
 use Rattle.register_write.specs.Rules.{no-register, read-only, bad-value, wrong-length, ring-refused, is-taken}
-use Rattle.device_run.specs.Run.{Lent, RunOutcome, conditionAfter, busyAfter, machineOf, sceneFor, turnFor, ran, refusedRun, runBy, runOf}
+use Rattle.device_run.specs.Run.{Lent, RunOutcome, conditionAfter, busyAfter, machineOf, sceneFor, lineOf, turnFor, ran, refusedRun, runBy, runOf}
 use Rattle.device.proofs.Kept.{make-refused}
 use Rattle.register_write.proofs.Refusals as WriteRefusals
 use Rattle.register_read.proofs.Refusals as ReadRefusals
 use Rattle.adapter.proofs.Refusals as PictureRefusals
 use Rattle.device_run.proofs.RunLaws.{run-by}
 use Rattle.refusals.specs.Refusing.{isRefusal, Sizes, Make34, Write30, Write31, Write32, Write20, Write33, Write0, Read30}
-use Rattle.refusals.specs.Refusing.{Run20, Run22, Run21, Run24, Run23, Starts, NextUsable, RunLeaves, PictureLent, Picture20, Picture24, Append1}
+use Rattle.refusals.specs.Refusing.{Run20, Run22, Run21, Run24, Run23, Starts, NextUsable, wholeWaiting, stopsAt, Reaches, RunLeaves, PictureLent, Picture20, Picture24, Append1}
 use Rattle.refusals.specs.Refusing.{Turn0, Turn10, HeadMissing, HeadBad, Turn12, WordsMissing, OperandBad, Executes}
-use Rattle.refusals.proofs.Reasons.{fails, sizes-good, ring-usable, not-usable, picture-lent, next-usable, ranged}
-use Rattle.refusals.proofs.Reasons.{stops-2, run-stops, run-none, run-unusable, run-straight, fault-after, ring-carries}
+use Rattle.refusals.proofs.Reasons.{fails, sizes-good, ring-usable, not-usable, picture-lent, next-usable, next-unusable, ranged}
+use Rattle.refusals.proofs.Reasons.{end-number, stops-2, verdict-ends, run-stops, run-none, run-unusable, run-straight, fault-after, ring-carries}
 use Rattle.refusals.proofs.Reasons as Reasons
 use Rattle.refusals.proofs.Rules.{write-why, ended-taken, is-lent, not-lent, start, start-fits, start-ended, ran-leaves, leaves-one, by-refusals, run-why}
 use Rattle.refusals.proofs.Rules.{turn-why, finds-0, finds-10, finds-1, finds-11, finds-12, finds-command}
@@ -161,6 +163,44 @@ module _ (d : Device) (index : ℕ) where
       go (Reads r) e = absurd (false≢true e)
       go Absent e = refl
 
+-- ---- one turn of a run, on the words w that wait in the ring g; its numbers are `execution/Straight.endNumber`
+
+-- "The ring holds (MAX − MIN)/4 words and carries one fewer."
+abbrev cap : Ring → ℕ
+cap g = carried (g .min) (g .max)
+
+module _ (d : Device) (l : Lent) (g : Ring) (m : Machine) (w : List ℕ) where
+  abbrev turn : Turn Machine
+  turn = turnFor d l g m w
+
+  -- what an action does to the machine
+  abbrev does : Action → List ℕ → Machine → Machine
+  does = done (sceneFor d l)
+
+  -- "NEXT_CMD = STOP: 0."
+  pub turn-0 : (turn ≡ ends Drained) ↔ Turn0 w
+  turn-0 = (turn-why knownOf does (cap g) m w (ends Drained), finds-0 knownOf does (cap g) m w)
+
+  -- "Number not offered: 10."
+  pub turn-10 : (turn ≡ ends (Fault NotOffered)) ↔ Turn10 w
+  turn-10 = (turn-why knownOf does (cap g) m w (ends (Fault NotOffered)), finds-10 knownOf does (cap g) m w)
+
+  -- "Head incomplete: 1." "Words missing: 1."
+  pub turn-1 : (turn ≡ ends Waiting) ↔ (HeadMissing w ⊎ WordsMissing (cap g) w)
+  turn-1 = (turn-why knownOf does (cap g) m w (ends Waiting), finds-1 knownOf does (cap g) m w)
+
+  -- "Cursor head bad: 11." "Raster operation above 15: 11."
+  pub turn-11 : (turn ≡ ends (Fault BadOperand)) ↔ (HeadBad w ⊎ OperandBad (knownOf m) (cap g) w)
+  turn-11 = (turn-why knownOf does (cap g) m w (ends (Fault BadOperand)), finds-11 knownOf does (cap g) m w)
+
+  -- "Length above what the ring carries: 12."
+  pub turn-12 : (turn ≡ ends (Fault TooLong)) ↔ Turn12 (cap g) w
+  turn-12 = (turn-why knownOf does (cap g) m w (ends (Fault TooLong)), finds-12 knownOf does (cap g) m w)
+
+  -- "Then it is executed": n words, which leave the machine s
+  pub turn-executes : ((n : ℕ) × (s : Machine) × (turn ≡ exec n s)) ↔ Executes (knownOf m) (cap g) w
+  turn-executes = (λ x. turn-why knownOf does (cap g) m w _ (x .2), λ x. (_, _, finds-command knownOf does (cap g) m w x))
+
 -- ---- run
 
 module _ (d : Device) (l : Lent) (budget : ℕ) where
@@ -248,7 +288,7 @@ module _ (d : Device) (l : Lent) (budget : ℕ) where
     -- "NEXT_CMD not a multiple of 4 or outside the ring: 13", where the budget is not used up
     pub run-13 : (run .answer ≡ 13) ↔ ((¬ NextUsable g (nextOf (l .ring))) × (¬ (budget ≡ 0)))
     run-13 =
-        let u = fails (nextGood g (nextOf (l .ring))) (next-usable g (nextOf (l .ring))) in
+        let u = next-unusable g (nextOf (l .ring)) in
         let w = Reasons.run-13 _ g budget (l .ring) (machineOf d l) (start-fits d l m g budget s) (ring-carries d m g (s .1) (s .4)) in
         rw run-starts (λ e. let x = w .0 e in (u .0 (x .0), x .1), λ x. w .1 (u .1 (x .0), x .1))
 
@@ -257,7 +297,7 @@ module _ (d : Device) (l : Lent) (budget : ℕ) where
         → run ≡ record { answer = 13; count = 0; device = withBusy (withCondition d (Faulted BadNext)) false; lent = l }
     unfolding conditionAfter busyAfter
     run-13-leaves n b =
-        let bad = fails (nextGood g (nextOf (l .ring))) (next-usable g (nextOf (l .ring))) .1 n in
+        let bad = next-unusable g (nextOf (l .ring)) .1 n in
         rw (run-starts, run-unusable (sceneFor d l) g budget (l .ring) (machineOf d l) (start-fits d l m g budget s) bad b) refl
 
     -- "budget used up: 2" comes first: with no budget nothing changes, whatever NEXT_CMD is
@@ -278,46 +318,55 @@ module _ (d : Device) (l : Lent) (budget : ℕ) where
     pub run-leaves-only : NextUsable g (nextOf (l .ring)) → (o : RunOutcome) → RunLeaves d l g budget o → o ≡ run
     run-leaves-only u o x = leaves-one d l g budget x (run-leaves u)
 
+    -- the line that straight execution stops at
+    abbrev stop : Line Machine
+    stop = stopsAt d l g
+
+    -- A run answers 0, 1, 10, 11 or 12 where the turn there does, if it comes there with budget left.
+    run-ends : {P : Type 0} (e : End) → endNumber e < 13 → (turnFor d l g (stop .machine) (stop .words) ≡ ends e) ↔ P
+        → (run .answer ≡ endNumber e) ↔ (Reaches d l g budget × P)
+    run-ends e small w =
+        let laws = command-laws knownOf (done (sceneFor d l)) _ (ring-carries d m g (s .1) (s .4)) in
+        let by-verdict : (u : NextUsable g (nextOf (l .ring)))
+        → (run .answer ≡ endNumber e) ↔ ((wholeWaiting d l g < budget) × (turnFor d l g (stop .machine) (stop .words) ≡ ends e)) =
+        λ u. let x = run-leaves u in rw (x .answer) (verdict-ends (turnFor d l g) laws (lineOf d l g) budget (run .count) e (x .count)) in (
+          λ q.
+              cases (nextGood g (nextOf (l .ring)))
+              (λ t. let u = next-usable g (nextOf (l .ring)) .0 t in let x = by-verdict u .0 q in ((u, x .0), w .0 (x .1)))
+              (λ f.
+              let n = next-unusable g (nextOf (l .ring)) .0 f in
+              cases (eqb budget 0)
+              (λ z.
+              let two : run .answer ≡ 2 = rw (run-no-budget (eqb-true _ _ z)) refl in
+              absurd (⊎-elim (λ a. omega arith) (λ a. omega arith) (end-number e)))
+              (λ z. let thirteen = run-13 .1 (n, eqb-false _ _ z) in absurd (omega arith))),
+          λ x. by-verdict (x .0 .0) .1 (x .0 .1, w .1 (x .1)),
+        )
+
+    -- "NEXT_CMD = STOP: 0."
+    pub run-0 : (run .answer ≡ 0) ↔ (Reaches d l g budget × Turn0 (stop .words))
+    run-0 = run-ends Drained (omega arith) (turn-0 d l g _ _)
+
+    -- "Head incomplete: 1." "Words missing: 1."
+    pub run-1 : (run .answer ≡ 1) ↔ (Reaches d l g budget × (HeadMissing (stop .words) ⊎ WordsMissing (cap g) (stop .words)))
+    run-1 = run-ends Waiting (omega arith) (turn-1 d l g _ _)
+
+    -- "Number not offered: 10."
+    pub run-10 : (run .answer ≡ 10) ↔ (Reaches d l g budget × Turn10 (stop .words))
+    run-10 = run-ends (Fault NotOffered) (omega arith) (turn-10 d l g _ _)
+
+    -- "Cursor head bad: 11." "Raster operation above 15: 11."
+    pub run-11 : (run .answer ≡ 11)
+        ↔ (Reaches d l g budget × (HeadBad (stop .words) ⊎ OperandBad (knownOf (stop .machine)) (cap g) (stop .words)))
+    run-11 = run-ends (Fault BadOperand) (omega arith) (turn-11 d l g _ _)
+
+    -- "Length above what the ring carries: 12."
+    pub run-12 : (run .answer ≡ 12) ↔ (Reaches d l g budget × Turn12 (cap g) (stop .words))
+    run-12 = run-ends (Fault TooLong) (omega arith) (turn-12 d l g _ _)
+
     -- "A fault .. stands until CONFIG_DONE 1 is accepted": one stands after the run exactly when the run answered it, and has that number
     pub run-fault : (c : Cause) → (conditionOf (run .device) ≡ Faulted c) ↔ (run .answer ≡ causeNumber c)
     run-fault c = rw run-starts (fault-after _ _ c)
-
--- ---- one turn of a run, on the words w that wait in the ring g; its numbers are `execution/Straight.endNumber`
-
-module _ (d : Device) (l : Lent) (g : Ring) (m : Machine) (w : List ℕ) where
-  abbrev cap : ℕ
-  cap = carried (g .min) (g .max)
-
-  abbrev turn : Turn Machine
-  turn = turnFor d l g m w
-
-  -- what an action does to the machine
-  abbrev does : Action → List ℕ → Machine → Machine
-  does = done (sceneFor d l)
-
-  -- "NEXT_CMD = STOP: 0."
-  pub turn-0 : (turn ≡ ends Drained) ↔ Turn0 w
-  turn-0 = (turn-why knownOf does cap m w (ends Drained), finds-0 knownOf does cap m w)
-
-  -- "Number not offered: 10."
-  pub turn-10 : (turn ≡ ends (Fault NotOffered)) ↔ Turn10 w
-  turn-10 = (turn-why knownOf does cap m w (ends (Fault NotOffered)), finds-10 knownOf does cap m w)
-
-  -- "Head incomplete: 1." "Words missing: 1."
-  pub turn-1 : (turn ≡ ends Waiting) ↔ (HeadMissing w ⊎ WordsMissing cap w)
-  turn-1 = (turn-why knownOf does cap m w (ends Waiting), finds-1 knownOf does cap m w)
-
-  -- "Cursor head bad: 11." "Raster operation above 15: 11."
-  pub turn-11 : (turn ≡ ends (Fault BadOperand)) ↔ (HeadBad w ⊎ OperandBad (knownOf m) cap w)
-  turn-11 = (turn-why knownOf does cap m w (ends (Fault BadOperand)), finds-11 knownOf does cap m w)
-
-  -- "Length above what the ring carries: 12."
-  pub turn-12 : (turn ≡ ends (Fault TooLong)) ↔ Turn12 cap w
-  turn-12 = (turn-why knownOf does cap m w (ends (Fault TooLong)), finds-12 knownOf does cap m w)
-
-  -- "Then it is executed": n words, which leave the machine s
-  pub turn-executes : ((n : ℕ) × (s : Machine) × (turn ≡ exec n s)) ↔ Executes (knownOf m) cap w
-  turn-executes = (λ x. turn-why knownOf does cap m w _ (x .2), λ x. (_, _, finds-command knownOf does cap m w x))
 
 -- ---- picture
 

@@ -8,17 +8,18 @@ use Prim.Native.Nat.{ℕ, zero, suc, _*_, _/_, _%_, _≤_, _<_, min}
 use native.Mathlib.Omega.{arith}
 use lib.Dec.{eqb, leb}
 use lib.ListN.{length}
-use borrow.Author.Tests.{eqb-true, leb-true, ltb-true, eq-eqb, ne-eqb, le-leb, lt-ltb}
+use borrow.Author.Tests.{eqb-true, eqb-false, leb-true, ltb-true, eq-eqb, ne-eqb, le-leb, lt-ltb}
 use borrow.Table.Steps.{cases}
 use Rattle.geometry.proofs.Tests.{both, not-both}
 use Rattle.execution.specs.declared.Cause.{Cause}
 use Rattle.execution.specs.declared.Cause.the-variants.{NotOffered, BadOperand, TooLong, BadNext}
 use Rattle.execution.specs.declared.End.{End}
 use Rattle.execution.specs.declared.End.the-variants.{Drained, Waiting, Fault}
-use Rattle.execution.specs.Straight.{causeNumber, endNumber, Turn, ends, exec, Line, beyond, next}
+use Rattle.execution.specs.Straight.{causeNumber, endNumber, Turn, ends, exec, Line, beyond, endOf, next, straight, whole, ending}
 use Rattle.execution.specs.Table.{unless, turnOf}
-use Rattle.execution.specs.Claim.{Answer, spent, standing, ended, answerNumber}
+use Rattle.execution.specs.Claim.{Answer, spent, standing, ended, answerNumber, verdict}
 use Rattle.execution.specs.Turns.{runs}
+use Rattle.execution.proofs.Laws.{Laws, straight-total}
 use Rattle.execution.proofs.QueueLaws.{runs-ends, runs-exec, RunsRight, run-right}
 use Rattle.ring.specs.declared.Ring.{Ring}
 use Rattle.ring.specs.Waiting.{waiting, carried, placed, nextGood}
@@ -101,6 +102,9 @@ next-usable g next = (
       rw (eq-eqb _ _ w, le-leb (g .min) (next / 4) (omega arith), lt-ltb (next / 4) (g .max) (omega arith)),
 )
 
+pub next-unusable : (g : Ring) (next : ℕ) → (nextGood g next ≡ false) ↔ (¬ NextUsable g next)
+next-unusable g next = fails (nextGood g next) (next-usable g next)
+
 between : (low high v : ℕ) → (leb low v && leb v high ≡ true) ↔ ((low ≤ v) × (v ≤ high))
 between low high v = (
   λ e. let b = both (leb low v) (leb v high) e in (leb-true _ _ (b .0), leb-true _ _ (b .1)),
@@ -151,7 +155,7 @@ same-end a b e = sym (end-for a) ∙ ap endFor e ∙ end-for b
 same-cause : (a b : Cause) → causeNumber a ≡ causeNumber b → a ≡ b
 same-cause a b e = let q : Fault a ≡ Fault b = same-end (Fault a) (Fault b) e in cc
 
-end-number : (e : End) → (endNumber e ≤ 1) ⊎ ((10 ≤ endNumber e) × (endNumber e ≤ 13))
+pub end-number : (e : End) → (endNumber e ≤ 1) ⊎ ((10 ≤ endNumber e) × (endNumber e ≤ 13))
 end-number Drained = inl (omega arith)
 end-number Waiting = inl (omega arith)
 end-number (Fault c) = inr (cause-range c)
@@ -192,6 +196,23 @@ module _ {S : Type 0} (turn : S → List ℕ → Turn S) where
   pub stops-13 : {b c : ℕ} {a : Answer} → ((s : S) (w : List ℕ) → turn s w ≡ ends (Fault BadNext) → ⊥) → Stops turn b a c → answerNumber a ≡ 13 → ⊥
   stops-13 not-13 (spends n) z = omega arith
   stops-13 not-13 (stops n k e s w h q) z = not-13 s w (q ∙ ap ends (same-end e (Fault BadNext) z))
+
+-- where straight execution ends with budget left, and only there, its answer is the run's
+pub verdict-ends : {S : Type 0} (turn : S → List ℕ → Turn S) {cap : ℕ} → Laws cap turn → (a : Line S) (b c : ℕ) (e : End) → c ≡ min b (whole turn a)
+    → (answerNumber (verdict (eqb c b) (ending turn a)) ≡ endNumber e) ↔ ((whole turn a < b) × (next turn (straight turn (whole turn a) a) ≡ ends e))
+unfolding verdict endOf
+verdict-ends turn laws a b c e many =
+    let stops = straight-total turn laws a .1 in
+    cases (eqb c b)
+    (λ t.
+    let full : c ≡ b = eqb-true _ _ t in
+    rw t (λ z. absurd (⊎-elim (λ l. omega arith) (λ f. omega arith) (end-number e)), λ x. absurd (omega (arith, x .0))))
+    (λ f.
+    let short : ¬ (c ≡ b) = eqb-false _ _ f in
+    rw f (
+      λ z. (omega arith, stops ∙ ap ends (same-end (ending turn a) e z)),
+      λ x. ap (λ t. endNumber (endOf t)) (sym stops ∙ x .1),
+    ))
 
 -- ---- a run of a ring that lies in its memory
 

@@ -151,6 +151,14 @@ module _ (d : Device) (l : Lent) (g : Ring) where
   abbrev pub wholeWaiting : ℕ
   wholeWaiting = whole (turnFor d l g) (lineOf d l g)
 
+  -- where straight execution stops: past them, at the turn that "ends it with nothing changed"
+  abbrev pub stopsAt : Line Machine
+  stopsAt = leftBy wholeWaiting
+
+  -- A run comes there, with budget left for that turn.
+  abbrev pub Reaches : ℕ → Type 0
+  Reaches budget = NextUsable g (nextOf (l .ring)) × (wholeWaiting < budget)
+
   -- "Its number is 2 if c = b, else the answer that ends straight execution there.", of a run with this budget and count
   abbrev pub answerBy : ℕ → ℕ → Answer
   answerBy b c = verdict (eqb c b) (ending (turnFor d l g) (lineOf d l g))
