@@ -1,3 +1,4 @@
 pub mod Reasons
 pub mod Rules
 pub mod Demand2
+pub mod Refuted

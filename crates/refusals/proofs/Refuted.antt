@@ -1,0 +1,122 @@
+-- The rules that readers' theorems are stated with are not met by everything: each refuses what document 01 does, and an if and only if with it says something.
+-- Assumes nothing.
+use mathlib.Core.Path.{_≡_, refl, sym, ap, _∙_}
+use mathlib.Core.Bool.{false, false≢true, true≢false}
+use mathlib.Core.List.{List, [], _∷_}
+use Prim.Native.Nat.{ℕ, suc, _*_, _≤_}
+use native.Mathlib.Omega.{arith}
+use Rattle.ring.specs.declared.Ring.{Ring}
+use Rattle.ring.specs.Acceptance.{Usable}
+use Rattle.register.specs.declared.Writable.the-variants.{Width}
+use Rattle.cursor.specs.Plane.{shapeGood}
+use Rattle.execution.specs.Straight.{straight}
+use Rattle.command.specs.Commands.{entry, kindOf}
+use Rattle.device.specs.declared.Device.{Device}
+use Rattle.device.specs.Device.{enabledOf}
+use Rattle.device_run.specs.Run.{Lent, RunOutcome}
+use Rattle.refusals.specs.Refusing.{isRefusal, Sizes, Ranged, Starts, NextUsable, leftBy, Reaches, RunLeaves}
+use Rattle.refusals.specs.Refusing.{Turn0, Turn10, HeadMissing, HeadBad, Turn12, WordsMissing, OperandBad, Executes}
+
+-- ---- answers: "Answers 20 to 34 change nothing"
+
+-- a fault, 10 to 13, is no refusal
+pub no-refusal-13 : isRefusal 13 ≡ false
+unfolding isRefusal
+no-refusal-13 = refl
+
+pub no-refusal-35 : isRefusal 35 ≡ false
+unfolding isRefusal
+no-refusal-35 = refl
+
+-- ---- making a device
+
+-- "M is a multiple of 4 from 10,256"
+pub sizes-not-10255 : ¬ Sizes 10255 1
+sizes-not-10255 s = omega (arith, s .1)
+
+-- "P is 1 to 4,096,000"
+pub sizes-not-4096001 : ¬ Sizes 10256 4096001
+sizes-not-4096001 s = omega (arith, s .4)
+
+-- ---- registers and the ring
+
+-- "2 WIDTH (1 to 2,560)"
+pub ranged-not-2561 : ¬ Ranged Width 2561
+ranged-not-2561 r = omega (arith, r .1)
+
+-- "Ring words 0 to 3 are MIN, MAX, NEXT_CMD, STOP": three words are none
+pub usable-not-three-words : (a b c : ℕ) → ¬ Usable (a ∷ b ∷ c ∷ [])
+usable-not-three-words a b c u = omega (arith, u .there)
+
+-- "MIN ≥ 16", whatever the other words are
+pub usable-not-min-12 : (words : List ℕ) → ¬ Usable (12 ∷ words)
+usable-not-min-12 words u = omega (arith, u .low)
+
+-- ---- a run
+
+-- "disabled"
+pub starts-not-disabled : (d : Device) (l : Lent) (g : Ring) → enabledOf d ≡ false → ¬ Starts d l g
+starts-not-disabled d l g off s = false≢true (sym off ∙ s .2)
+
+-- "NEXT_CMD 18, or equal to MAX: 13."
+pub next-not-18 : (g : Ring) → ¬ NextUsable g 18
+next-not-18 g u = omega (arith, u .0)
+
+pub next-not-max : (g : Ring) → ¬ NextUsable g (4 * g .max)
+next-not-max g u = omega (arith, u .2)
+
+module _ (d : Device) (l : Lent) (g : Ring) where
+  -- with no budget a run comes nowhere
+  pub reaches-not-without-budget : ¬ Reaches d l g 0
+  reaches-not-without-budget r = omega (arith, r .1)
+
+  module _ (budget : ℕ) where
+    -- one command too many
+    pub leaves-not-one-more : (o p : RunOutcome) → RunLeaves d l g budget o → p .count ≡ suc (o .count) → ¬ RunLeaves d l g budget p
+    leaves-not-one-more o p x more y = omega (arith, x .count, y .count)
+
+    -- a screen that changed though nothing was counted
+    pub leaves-not-uncounted : (o : RunOutcome) → o .count ≡ 0 → (¬ (o .lent .screen ≡ l .screen)) → ¬ RunLeaves d l g budget o
+    unfolding straight
+    leaves-not-uncounted o none changed x = changed (ap (λ m. m .screen) (x .machine ∙ ap (λ k. leftBy d l g k .machine) none))
+
+-- ---- one turn
+
+-- "NEXT_CMD = STOP: 0": where a word waits it is not
+pub turn-0-not-a-word : (x : ℕ) (w : List ℕ) → ¬ Turn0 (x ∷ w)
+turn-0-not-a-word x w t = omega (arith, t)
+
+-- UPDATE is offered
+pub turn-10-not-update : (w : List ℕ) → ¬ Turn10 (1 ∷ w)
+unfolding entry kindOf
+turn-10-not-update w t = true≢false (t .1)
+
+-- a FENCE's head is two words
+pub head-missing-not-fence : (number : ℕ) (w : List ℕ) → ¬ HeadMissing (30 ∷ number ∷ w)
+unfolding entry kindOf
+head-missing-not-fence number w t = omega (arith, t .2)
+
+-- "Cursor 64 by 1 is fine"
+pub head-bad-not-64-by-1 : (id : ℕ) (w : List ℕ) → ¬ HeadBad (22 ∷ id ∷ 0 ∷ 0 ∷ 64 ∷ 1 ∷ w)
+unfolding entry kindOf shapeGood
+head-bad-not-64-by-1 id w t = true≢false (t .1)
+
+-- a FENCE is two words long, which every ring carries
+pub turn-12-not-fence : (cap : ℕ) (w : List ℕ) → 2 ≤ cap → ¬ Turn12 cap (30 ∷ w)
+unfolding entry kindOf
+turn-12-not-fence cap w h t = omega (arith, t .2)
+
+-- "ESCAPE sizes 0, 1, 10,224 ..: 3, 4, 2,559 words": one of size 0 has its words with its head
+pub words-missing-not-empty-escape : (cap namespace : ℕ) (w : List ℕ) → ¬ WordsMissing cap (33 ∷ namespace ∷ 0 ∷ w)
+unfolding entry kindOf
+words-missing-not-empty-escape cap namespace w t = omega (arith, t .3)
+
+-- a plain fill has no operation that could be bad
+pub operand-bad-not-plain-fill : (cap : ℕ) (w : List ℕ) → ¬ OperandBad tt cap (2 ∷ w)
+unfolding entry kindOf
+operand-bad-not-plain-fill cap w t = true≢false (t .1)
+
+-- "Raster operation above 15: 11."
+pub executes-not-operation-16 : (cap colour x y width height : ℕ) (w : List ℕ) → ¬ Executes tt cap (13 ∷ colour ∷ x ∷ y ∷ width ∷ height ∷ 16 ∷ w)
+unfolding entry kindOf
+executes-not-operation-16 cap colour x y width height w t = false≢true (t .1)
