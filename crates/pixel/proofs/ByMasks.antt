@@ -4,13 +4,14 @@ use mathlib.Core.Path.{_≡_, refl, sym, _∙_}
 use mathlib.Core.Bool.{Bool, true, false, _&&_, cond}
 use Prim.Native.Nat.{ℕ, _^_, _<_, min}
 use native.Mathlib.Omega.{arith}
-use lib.Bits.{differ, and-zero-r, xor-zero-l}
+use lib.Bits.{bitXor, differ, and-zero-r, xor-zero-l}
 use lib.Dec.{T, eqb, eqb→eq}
 use mir.Facts.{and-yes}
 use borrow.Author.Tests.{eqb-true, eqb-false, eq-eqb, ne-eqb}
 use borrow.Table.Steps.{cases}
 use Rattle.pixel.specs.RasterOperation.{rasterOp}
-use Rattle.pixel.specs.Masks.{reducePixel, reducedOf, mergePixel, masksOf}
+use Rattle.pixel.specs.declared.Masks.{Masks}
+use Rattle.pixel.specs.Masks.{reducePixel, Reduces, mergePixel, Merges}
 use Rattle.pixel.proofs.Bitwise.{by-bit, by-bits, source, dest, zeros, inverse, both-and, both-xor, ruled, agree, rasterBit, raster}
 
 -- a function of one bit, by a mask to keep and a mask to flip
@@ -20,13 +21,16 @@ picked P h k =
     (by-bits (λ a b. differ (min 0 (differ a b)) b ≡ b) refl refl refl refl (P 1) (P 0) h k)
     (by-bits (λ a b. differ (min 1 (differ a b)) b ≡ a) refl refl refl refl (P 1) (P 0) h k)
 
-pub reduced : (rop s d : ℕ) → s < 2 ^ 32 → d < 2 ^ 32 → reducePixel (reducedOf rop s .keep) (reducedOf rop s .flip) d ≡ rasterOp rop s d
-unfolding rasterOp reducePixel reducedOf
-reduced rop s d =
+-- the results at a destination of all ones and of 0 give the masks
+pub reduced : (rop s : ℕ) → s < 2 ^ 32 → Reduces rop s (bitXor (rasterOp rop s 0xFFFF_FFFF) (rasterOp rop s 0)) (rasterOp rop s 0)
+unfolding rasterOp reducePixel
+reduced rop s fits =
     let r = raster rop in
     let flip = ruled source zeros r in
-    agree (both-xor (both-and dest (both-xor (ruled source (inverse zeros) r) flip)) flip) r
-    (λ x y h k. picked (rasterBit rop x) (r .bit x 1 h (omega arith)) (r .bit x 0 h (omega arith)) y k) 32 s d
+    record {
+      agrees = λ d. agree (both-xor (both-and dest (both-xor (ruled source (inverse zeros) r) flip)) flip) r
+          (λ x y h k. picked (rasterBit rop x) (r .bit x 1 h (omega arith)) (r .bit x 0 h (omega arith)) y k) 32 s d fits;
+    }
 
 pub nothing-kept : (flip d : ℕ) → reducePixel 0 flip d ≡ flip
 unfolding reducePixel
@@ -78,9 +82,22 @@ merged-bit f bit x y h k =
     eqb→eq _ _ (at-bit (right₆ a b c e x) (at-bit (right₅ a b c e) at-four x h) y k)
     ∙ by-bits (λ x y. cond (eqb x 0) (cond (eqb y 0) e c) (cond (eqb y 0) b a) ≡ f x y) refl refl refl refl x y h k
 
-pub merged : (rop s d : ℕ) → s < 2 ^ 32 → d < 2 ^ 32 → mergePixel (masksOf rop) s d ≡ rasterOp rop s d
+-- the masks, from the results at sources and destinations of all ones and of 0
+unfoldable pub masksOf : ℕ → Masks
+masksOf rop =
+    let constant = rasterOp rop 0 0 in
+    let source = bitXor (rasterOp rop 0xFFFF_FFFF 0) constant in
+    let dest = bitXor (rasterOp rop 0 0xFFFF_FFFF) constant in
+    record {
+      product = bitXor (bitXor (bitXor (rasterOp rop 0xFFFF_FFFF 0xFFFF_FFFF) source) dest) constant;
+      source = source;
+      dest = dest;
+      constant = constant;
+    }
+
+merged-words : (rop s d : ℕ) → s < 2 ^ 32 → d < 2 ^ 32 → mergePixel (masksOf rop) s d ≡ rasterOp rop s d
 unfolding rasterOp mergePixel masksOf
-merged rop s d h k =
+merged-words rop s d h k =
     let r = raster rop in
     let ones = inverse zeros in
     let constant = ruled zeros zeros r in
@@ -100,3 +117,6 @@ merged rop s d h k =
     rw (ne-eqb _ 0 (λ e. let w : 4294967295 ≡ 0 = sym z ∙ e in omega arith))
     (agree (both-xor (both-and (both-xor source of-dest) (both-xor dest of-source)) (both-xor (both-and of-dest of-source) constant)) r
     (λ x y i j. rw n at (merged-bit f (r .bit) x y i j)) 32 s d h k))
+
+pub merged : (rop : ℕ) → Merges rop (masksOf rop)
+merged rop = record { agrees = merged-words rop }

@@ -1,19 +1,25 @@
--- The raster operations by masks: what the row loops compute. Nothing here has to be believed: `reduced` and `merged` of
--- proofs/ByMasks.antt say that it is `rasterOp`.
-use Prim.Native.Nat.{ℕ}
+-- The raster operations by masks: what the row loops compute. Nothing here has to be believed: `Reduces` and `Merges` say that masks
+-- give `rasterOp`, and the contracts of `reduce_pixel` and `merge_pixel` that what these return is it, whatever the formula.
+use mathlib.Core.Path.{_≡_}
 use mathlib.Core.Bool.{cond}
+use Prim.Native.Nat.{ℕ, _^_, _<_}
 use lib.Bits.{bitAnd, bitXor}
 use lib.Dec.{eqb}
 use Rattle.pixel.specs.declared.Masks.{Masks}
-use Rattle.pixel.specs.declared.Reduced.{Reduced}
 use Rattle.pixel.specs.RasterOperation.{rasterOp}
 
 -- With one source: the destination and keep, exclusive-or flip.
 unfoldable pub reducePixel : ℕ → ℕ → ℕ → ℕ
 reducePixel keep flip d = bitXor (bitAnd d keep) flip
 
-unfoldable pub reducedOf : ℕ → ℕ → Reduced
-reducedOf rop s = record { keep = bitXor (rasterOp rop s 0xFFFF_FFFF) (rasterOp rop s 0); flip = rasterOp rop s 0 }
+-- The masks are those of operation rop at source s: for every destination they give the operation's result.
+pub record Reduces (rop s keep flip : ℕ) : Type 0 where
+  pub agrees : (d : ℕ) → d < 2 ^ 32 → reducePixel keep flip d ≡ rasterOp rop s d
+
+-- A pixel by masks: the formula for any masks, and the result of every operation whose masks they are.
+pub record PixelReduced (keep flip d r : ℕ) : Type 0 where
+  pub formula : r ≡ reducePixel keep flip d
+  pub operation : (rop s : ℕ) → Reduces rop s keep flip → r ≡ rasterOp rop s d
 
 -- With many sources: at each bit an operation is product·s·d + source·s + dest·d + constant, sums being exclusive-or.
 -- Where the product counts, that is (s + dest)·(d + source) + (dest·source + constant).
@@ -23,14 +29,11 @@ mergePixel m s d =
     (bitXor (bitAnd d (m .dest)) (bitXor (bitAnd s (m .source)) (m .constant)))
     (bitXor (bitAnd (bitXor s (m .dest)) (bitXor d (m .source))) (bitXor (bitAnd (m .dest) (m .source)) (m .constant)))
 
-unfoldable pub masksOf : ℕ → Masks
-masksOf rop =
-    let constant = rasterOp rop 0 0 in
-    let source = bitXor (rasterOp rop 0xFFFF_FFFF 0) constant in
-    let dest = bitXor (rasterOp rop 0 0xFFFF_FFFF) constant in
-    record {
-      product = bitXor (bitXor (bitXor (rasterOp rop 0xFFFF_FFFF 0xFFFF_FFFF) source) dest) constant;
-      source = source;
-      dest = dest;
-      constant = constant;
-    }
+-- The masks are those of operation rop: for every source and destination they give the operation's result.
+pub record Merges (rop : ℕ) (m : Masks) : Type 0 where
+  pub agrees : (s d : ℕ) → s < 2 ^ 32 → d < 2 ^ 32 → mergePixel m s d ≡ rasterOp rop s d
+
+-- A pixel by masks, as above.
+pub record PixelMerged (m : Masks) (s d r : ℕ) : Type 0 where
+  pub formula : r ≡ mergePixel m s d
+  pub operation : (rop : ℕ) → Merges rop m → r ≡ rasterOp rop s d

@@ -3,7 +3,7 @@ ghost use mathlib.Core.Path.{_≡_};
 ghost use Prim.Native.Nat.{_≤_};
 ghost use Rattle.pixel.specs.RasterOperation.{rasterOp};
 ghost use Rattle.pixel.specs.Blend.{blendColour, blendPixel};
-ghost use Rattle.pixel.specs.Masks.{reducedOf, reducePixel, masksOf, mergePixel};
+ghost use Rattle.pixel.specs.Masks.{Reduces, PixelReduced, Merges, PixelMerged};
 
 // The X protocol's raster operations, by name: clear, and, andReverse, copy, andInverted, noop, xor, or,
 // nor, equiv, invert, orReverse, copyInverted, orInverted, nand, set. A number above 15 is none of them and leaves d.
@@ -38,9 +38,10 @@ pub struct Reduced {
     pub flip: u32,
 }
 
+// The masks give the operation's result for every destination.
 // Rules out: masks that hold for a destination of 0 alone; keep and flip exchanged.
 pub fn reduce(rop: u32, s: u32) -> Reduced
-    ensures { λ r. ⌜ r ≡ reducedOf rop s ⌝ }
+    ensures { λ r. ⌜ Reduces rop s (r .keep) (r .flip) ⌝ }
 {
     let flip = raster_op(rop, s, 0);
     let full = raster_op(rop, s, 0xFFFF_FFFF);
@@ -50,9 +51,10 @@ pub fn reduce(rop: u32, s: u32) -> Reduced
     }
 }
 
+// With the masks of an operation, its result.
 // Rules out: the flip before the keep; the destination left as it was.
 pub fn reduce_pixel(keep: u32, flip: u32, d: u32) -> u32
-    ensures { λ r. ⌜ r ≡ reducePixel keep flip d ⌝ }
+    ensures { λ r. ⌜ PixelReduced keep flip d r ⌝ }
 {
     d & keep ^ flip
 }
@@ -66,9 +68,10 @@ pub struct Masks {
     pub constant: u32,
 }
 
+// The masks give the operation's result for every source and destination.
 // Rules out: masks of the operation with source and destination exchanged; masks of operation rop % 8.
 pub fn masks_of(rop: u32) -> Masks
-    ensures { λ r. ⌜ r ≡ masksOf rop ⌝ }
+    ensures { λ r. ⌜ Merges rop r ⌝ }
 {
     let constant = raster_op(rop, 0, 0);
     let source = raster_op(rop, 0xFFFF_FFFF, 0) ^ constant;
@@ -82,10 +85,11 @@ pub fn masks_of(rop: u32) -> Masks
     }
 }
 
-// Four operations for a pixel, with the product or without it. The test is the same for a whole copy, so it leaves the loops.
+// With the masks of an operation, its result: four operations for a pixel, with the product or without it.
+// The test is the same for a whole copy, so it leaves the loops.
 // Rules out: the masks of source and destination exchanged; the product left out.
 pub fn merge_pixel(m: Masks, s: u32, d: u32) -> u32
-    ensures { λ r. ⌜ r ≡ mergePixel m s d ⌝ }
+    ensures { λ r. ⌜ PixelMerged m s d r ⌝ }
 {
     if m.product == 0 {
         return d & m.dest ^ (s & m.source ^ m.constant);

@@ -12,8 +12,9 @@ use Rattle.geometry.proofs.Tests.{both}
 use Rattle.geometry.proofs.Painted.{painted-same}
 use Rattle.geometry.specs.Pixels.{inRect, painted}
 use Rattle.geometry.proofs.Rows.{copiedAt}
-use Rattle.pixel.specs.Masks.{reducedOf, masksOf, mergePixel}
-use Rattle.pixel.proofs.ByMasks.{reduced, nothing-kept, merged}
+use Rattle.pixel.specs.declared.Masks.{Masks}
+use Rattle.pixel.specs.Masks.{Reduces, mergePixel, Merges}
+use Rattle.pixel.proofs.ByMasks.{nothing-kept}
 use Rattle.pixel.proofs.Laws.{copy-stores-source}
 use Rattle.raster.specs.CutPainters.{storedIn, reducedCut, filledCut, movedCut, copiedCut}
 
@@ -33,10 +34,10 @@ pixel-filled width r colour old one fits words =
     ∙ plain-filled width r colour old fits words
 
 -- the masks of an operation and a colour give the operation
-pub masked-filled : (width : ℕ) (r : Rect) (colour rop : ℕ) (old : List ℕ) → colour < 2 ^ 32 → ((k : ℕ) → getD old k 0 < 2 ^ 32)
-    → reducedCut width r (reducedOf rop colour .keep) (reducedOf rop colour .flip) old ≡ filledCut width r colour rop old
+pub masked-filled : (width : ℕ) (r : Rect) {colour rop keep flip : ℕ} (old : List ℕ) → Reduces rop colour keep flip → ((k : ℕ) → getD old k 0 < 2 ^ 32)
+    → reducedCut width r keep flip old ≡ filledCut width r colour rop old
 unfolding reducedCut filledCut
-masked-filled width r colour rop old fits words = painted-same _ _ _ old (λ k _ _. reduced rop colour (getD old k 0) fits (words k))
+masked-filled width r old masks words = painted-same _ _ _ old (λ k _ _. masks .agrees (getD old k 0) (words k))
 
 -- where nothing is kept, the flip is stored
 pub flip-stored : (width : ℕ) (r : Rect) (flip : ℕ) (old : List ℕ) → storedIn width (r .x) (r .y) (r .w) (r .h) flip old ≡ reducedCut width r 0 flip old
@@ -49,8 +50,8 @@ unfolding movedCut copiedCut
 plain-copied width sx sy r old words = painted-same _ _ _ old (λ k _ _. sym (copy-stores-source _ (getD old k 0) (words _) (words k)))
 
 -- the masks of an operation give the operation
-pub masked-copied : (width sx sy : ℕ) (r : Rect) (rop : ℕ) (old : List ℕ) → ((k : ℕ) → getD old k 0 < 2 ^ 32)
-    → painted (inRect width (r .x) (r .y) (r .w) (r .h)) (copiedAt width sx sy (r .x) (r .y) (mergePixel (masksOf rop)) old) old
+pub masked-copied : (width sx sy : ℕ) (r : Rect) {rop : ℕ} {m : Masks} (old : List ℕ) → Merges rop m → ((k : ℕ) → getD old k 0 < 2 ^ 32)
+    → painted (inRect width (r .x) (r .y) (r .w) (r .h)) (copiedAt width sx sy (r .x) (r .y) (mergePixel m) old) old
     ≡ copiedCut width sx sy r rop old
 unfolding copiedCut
-masked-copied width sx sy r rop old words = painted-same _ _ _ old (λ k _ _. merged rop _ (getD old k 0) (words _) (words k))
+masked-copied width sx sy r old masks words = painted-same _ _ _ old (λ k _ _. masks .agrees _ (getD old k 0) (words _) (words k))

@@ -46,8 +46,8 @@ returns : tie.Need-returns Inv-loop μ-loop
 returns c =
     let ready = Ready (c .before) in
     let a = Start ready .args in
-    rw (ready .before .masks-of .ensures) at (copy-end (c .before .loop .inv) (c .loop-test .left))
-    ∙ masked-copied (a .width) (a .sx) (a .sy) (a .area) (a .rop) (a .screen .now) (λ k. ready .before .before .slice-known .given k .fits)
+    copy-end (c .before .loop .inv) (c .loop-test .left)
+    ∙ masked-copied (a .width) (a .sx) (a .sy) (a .area) (a .screen .now) (ready .before .masks-of .ensures) (λ k. ready .before .before .slice-known .given k .fits)
 
 pub merge-cut-spec : {M : Type 1} → statement M
 merge-cut-spec =

@@ -29,7 +29,7 @@ loop-again c =
     let a = at-loop .before .before .before .args in
     let more = c .before .before .before .loop-test .taken in
     let step = front-read (at-loop .loop .inv) more in
-    front-step (at-loop .loop .inv) _ more (c .merge-pixel .ensures ∙ ap (mergePixel (a .m) (getD (a .line .now) (at-loop .loop .i) 0)) step)
+    front-step (at-loop .loop .inv) _ more (c .merge-pixel .ensures .formula ∙ ap (mergePixel (a .m) (getD (a .line .now) (at-loop .loop .i) 0)) step)
 
 returns : tie.Need-returns Inv-loop μ-loop
 returns c = front-end (c .before .loop .inv) (c .loop-test .left)

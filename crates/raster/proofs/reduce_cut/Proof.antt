@@ -11,9 +11,8 @@ masked : (c : tie.After-reduce)
     → let a = c .before .before .args in
     reducedCut (a .width) (a .area) (c .reduce .result .keep) (c .reduce .result .flip) (a .screen .now) ≡ filledCut (a .width) (a .area) (a .colour) (a .rop) (a .screen .now)
 masked c =
-    let start = c .before .before in
-    let a = start .args in
-    rw (← (c .reduce .ensures)) at (masked-filled (a .width) (a .area) (a .colour) (a .rop) (a .screen .now) (start .fits .colour .fits) (λ k. c .before .slice-known .given k .fits))
+    let a = c .before .before .args in
+    masked-filled (a .width) (a .area) (a .screen .now) (c .reduce .ensures) (λ k. c .before .slice-known .given k .fits)
 
 returns : tie.Need-returns
 returns c =

@@ -27,7 +27,7 @@ loop-again c =
     let at-loop = c .before .before .before in
     let a = at-loop .before .before .args in
     let more = c .before .before .loop-test .taken in
-    front-step (at-loop .loop .inv) _ more (c .reduce-pixel .ensures ∙ ap (reducePixel (a .keep) (a .flip)) (front-read (at-loop .loop .inv) more))
+    front-step (at-loop .loop .inv) _ more (c .reduce-pixel .ensures .formula ∙ ap (reducePixel (a .keep) (a .flip)) (front-read (at-loop .loop .inv) more))
 
 returns : tie.Need-returns Inv-loop μ-loop
 returns c = front-end (c .before .loop .inv) (c .loop-test .left)
