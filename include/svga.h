@@ -80,7 +80,7 @@ extern "C" {
 #define SVGA_ANSWER_NOT_CONFIGURED 22 /* run: CONFIG_DONE is 0 */
 #define SVGA_ANSWER_FAULT_STANDS 23   /* run: an earlier run ended in a fault */
 #define SVGA_ANSWER_MODE_TOO_LARGE 24 /* run, picture: width * height is above P */
-#define SVGA_ANSWER_NO_REGISTER 30    /* write, read: no such register */
+#define SVGA_ANSWER_NO_REGISTER 30    /* write, read: no such register; these, offscreen and fences: the device words are none */
 #define SVGA_ANSWER_READ_ONLY 31      /* write: the register is read-only */
 #define SVGA_ANSWER_BAD_VALUE 32      /* write: the value is outside the register's range */
 #define SVGA_ANSWER_RING_REFUSED 33   /* write of CONFIG_DONE 1: ring words 0 to 3 are no usable ring */
@@ -206,13 +206,12 @@ extern "C" {
  * Words are well-formed if M and P are within their limits; WIDTH and HEIGHT are ones that a write takes; words 3, 6, 12, 16 and 23 are
  * 0 or 1; word 24 is one of those named, with CONFIG_DONE 0 where it is 0 and 1 where it is 1; a ring has 4 <= MIN,
  * MIN + 2560 <= MAX <= M / 4 and MIN <= STOP < MAX; a defined cursor has w and h from 1 to 64, hotx < w and hoty < h; and what is said to
- * be 0 is 0, the spare words included. Every call looks at this first, right after the device's length. Words that fail are refused and
- * nothing changes:
+ * be 0 is 0, the spare words included. Every call but svga_make looks at this first, right after the device's length
+ * (svga_offscreen after both of its lengths). Words that fail are refused and nothing changes:
  *
- *     svga_write, svga_read, svga_fence, svga_fence_passed    SVGA_ANSWER_NO_REGISTER
- *     svga_run                                                SVGA_ANSWER_NOT_CONFIGURED
- *     svga_picture                                            SVGA_ANSWER_MODE_TOO_LARGE
- *     svga_offscreen                                          SVGA_ANSWER_TAKEN, and four zeros: an empty rectangle
+ *     svga_write, svga_read, svga_offscreen, svga_fence, svga_fence_passed    SVGA_ANSWER_NO_REGISTER
+ *     svga_run                                                                SVGA_ANSWER_NOT_CONFIGURED
+ *     svga_picture                                                            SVGA_ANSWER_MODE_TOO_LARGE
  *
  * To try restored words, read SVGA_REG_ID: SVGA_ANSWER_TAKEN says that they are well-formed.
  */
@@ -292,7 +291,8 @@ uint32_t svga_picture(const uint32_t *device, size_t device_len, const uint32_t 
  * is empty where right <= left or bottom <= top.
  *
  *   SVGA_ANSWER_TAKEN        done
- *   SVGA_ANSWER_LENT_LENGTH  device_len is not SVGA_DEVICE_WORDS, or edges_len is not SVGA_EDGES_WORDS
+ *   SVGA_ANSWER_LENT_LENGTH  device_len is not SVGA_DEVICE_WORDS, or edges_len is not SVGA_EDGES_WORDS; the edges stay as they were
+ *   SVGA_ANSWER_NO_REGISTER  the device words are not well-formed; the edges stay as they were
  */
 uint32_t svga_offscreen(const uint32_t *device, size_t device_len, uint32_t *edges, size_t edges_len);
 

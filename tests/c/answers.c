@@ -137,6 +137,10 @@ static void saving(void) {
     IS(picture(), SVGA_ANSWER_MODE_TOO_LARGE);
     IS(svga_fence(device, SVGA_DEVICE_WORDS), both(SVGA_ANSWER_NO_REGISTER, 0));
     IS(svga_fence_passed(device, SVGA_DEVICE_WORDS, 0), both(SVGA_ANSWER_NO_REGISTER, 0));
+    uint32_t edges[SVGA_EDGES_WORDS] = {9, 9, 9, 9};
+    IS(svga_offscreen(device, SVGA_DEVICE_WORDS, edges, SVGA_EDGES_WORDS), SVGA_ANSWER_NO_REGISTER);
+    IS(svga_offscreen(device, SVGA_DEVICE_WORDS, edges, SVGA_EDGES_WORDS - 1), SVGA_ANSWER_LENT_LENGTH);
+    for (int i = 0; i < SVGA_EDGES_WORDS; i++) IS(edges[i], 9);
     memcpy(device, saved, sizeof device);
     device[63] = 1; // a spare word
     IS(get(SVGA_REG_ID), both(SVGA_ANSWER_NO_REGISTER, 0));

@@ -106,7 +106,7 @@ pub fn picture(device: &[u32], screen: &[u32], cursor: &[u32], output: &mut [u32
     }
 }
 
-/// Writes the offscreen rectangle's left, top, right and bottom edge to `edges`, four words: 0 or 20.
+/// Writes the offscreen rectangle's left, top, right and bottom edge to `edges`, four words: 0, 20 or 30.
 #[must_use]
 pub fn offscreen(device: &[u32], edges: &mut [u32]) -> u32 {
     // SAFETY: see above.

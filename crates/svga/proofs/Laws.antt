@@ -10,11 +10,10 @@ use Rattle.register_write.proofs.Refusals.{ill-formed-write}
 use Rattle.register_read.specs.Registers.{readOf}
 use Rattle.device_run.specs.Run.{Lent, runOf}
 use Rattle.adapter.specs.Picture.{pictureOf}
-use Rattle.adapter.specs.Offscreen.{offscreenOf}
 use Rattle.device_words.specs.declared.Held.{Held}
 use Rattle.device_words.specs.Words.{wordsOf, spelledIn, onlyWellFormed, heldIn, putIn}
 use Rattle.device_words.proofs.RoundTrip.{by-held}
-use Rattle.svga.specs.Calls.{writeHeld, svgaWrite, readHeld, svgaRead, runHeld, svgaRun, pictureHeld, svgaPicture, edgesHeld, fenceHeld, svgaFence, passedHeld, svgaPassed}
+use Rattle.svga.specs.Calls.{writeHeld, svgaWrite, readHeld, svgaRead, runHeld, svgaRun, pictureHeld, svgaPicture, edgesHeld, svgaOffscreen, fenceHeld, svgaFence, passedHeld, svgaPassed}
 
 -- A device put into 64 words leaves its own.
 pub put-whole : (w : List ℕ) (d : Device) → length w ≡ 64 → (after : List ℕ) → after ≡ putIn w d → after ≡ wordsOf d
@@ -54,7 +53,11 @@ module _ (w : List ℕ) (spelled : Held) (whole : length w ≡ 64) (is : spelled
       rw (is, eq-eqb (length w) 64 whole)
       (by-held w (λ s h. pictureHeld screen image output s ≡ pictureHeld screen image output h) (λ d. refl) (λ d f e. rw f) refl)
 
-  -- fences make the test themselves
+  -- the offscreen rectangle and the fences make the test themselves
+  pub svga-edges-held : (edges : List ℕ) → length edges ≡ 4 → edgesHeld edges (onlyWellFormed spelled) ≡ svgaOffscreen w edges
+  unfolding svgaOffscreen heldIn
+  svga-edges-held edges four = rw (is, eq-eqb (length w) 64 whole, eq-eqb (length edges) 4 four)
+
   pub svga-fence-held : fenceHeld (onlyWellFormed spelled) ≡ svgaFence w
   unfolding svgaFence heldIn
   svga-fence-held = rw (is, eq-eqb (length w) 64 whole)
@@ -62,8 +65,3 @@ module _ (w : List ℕ) (spelled : Held) (whole : length w ≡ 64) (is : spelled
   pub svga-passed-held : (f : ℕ) → passedHeld f (onlyWellFormed spelled) ≡ svgaPassed w f
   unfolding svgaPassed heldIn
   svga-passed-held f = rw (is, eq-eqb (length w) 64 whole)
-
--- edges of such a device are those of none
-pub svga-edges-held : (w : List ℕ) → edgesHeld (spelledIn w) ≡ edgesHeld (heldIn w)
-unfolding edgesHeld offscreenOf
-svga-edges-held w = by-held w (λ s h. edgesHeld s ≡ edgesHeld h) (λ d. refl) (λ d f e. rw f) refl

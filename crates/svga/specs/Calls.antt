@@ -115,13 +115,14 @@ edgesCall answer edges = record { answer = answer; edges = edges }
 abbrev pub edgeWords : Edges → List ℕ
 edgeWords e = e .left ∷ e .top ∷ e .right ∷ e .bottom ∷ []
 
--- Words that hold no device: four zeros, an empty rectangle.
-unfoldable pub edgesHeld : Held → List ℕ
-edgesHeld (Holds d) = edgeWords (offscreenOf d)
-edgesHeld Nothing = 0 ∷ 0 ∷ 0 ∷ 0 ∷ []
+-- Words that hold no device have no rectangle: 30, as for a register that is not there, and the edges stay as they were.
+unfoldable pub edgesHeld : List ℕ → Held → EdgesCall
+edgesHeld edges (Holds d) = edgesCall 0 (edgeWords (offscreenOf d))
+edgesHeld edges Nothing = edgesCall noRegister edges
 
+-- The two lengths are looked at first, the device's before that of the edges.
 unfoldable pub svgaOffscreen : List ℕ → List ℕ → EdgesCall
-svgaOffscreen w edges = inWords w (cond (eqb (length edges) 4) (edgesCall 0 (edgesHeld (heldIn w))) (edgesCall lentLength edges)) (edgesCall lentLength edges)
+svgaOffscreen w edges = inWords w (cond (eqb (length edges) 4) (edgesHeld edges (heldIn w)) (edgesCall lentLength edges)) (edgesCall lentLength edges)
 
 -- Words that hold no device have no fence: 30, as for a register that is not there.
 unfoldable pub fenceHeld : Held → ℕ

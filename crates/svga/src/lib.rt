@@ -168,24 +168,6 @@ pub extern "C" fn svga_picture(
     }
 }
 
-fn edges_of(held: Held) -> Edges
-    ensures { λ r. ⌜ edgeWords r ≡ edgesHeld held ⌝ }
-{
-    match held {
-        Held::Device(d) => {
-            return adapter::offscreen(d);
-        }
-        Held::Nothing => {
-            return Edges {
-                left: 0,
-                top: 0,
-                right: 0,
-                bottom: 0,
-            };
-        }
-    }
-}
-
 fn put_edges(edges: &mut [u32], e: Edges)
     requires { ⌜ length (now edges) ≡ 4 ⌝ }
     ensures { λ _. ⌜ now (edges .exit) ≡ edgeWords e ⌝ }
@@ -196,8 +178,21 @@ fn put_edges(edges: &mut [u32], e: Edges)
     edges[3] = e.bottom;
 }
 
+fn put_offscreen(edges: &mut [u32], d: Device) -> u32
+    requires { ⌜ length (now edges) ≡ 4 ⌝ }
+    ensures { λ r. ⌜ edgesCall r (now (edges .exit)) ≡ edgesHeld (now (edges .entry)) (onlyWellFormed (Holds d)) ⌝ }
+{
+    let well_formed = adapter::is_well_formed(d);
+    if !well_formed {
+        return NO_REGISTER;
+    }
+    let e = adapter::offscreen(d);
+    put_edges(edges, e);
+    0
+}
+
 // The usable offscreen rectangle: left, top, right, bottom.
-// Rules out: width and height in place of right and bottom; edges of words that hold no device.
+// Rules out: width and height in place of right and bottom; four zeros and answer 0 for words that hold no device.
 #[no_mangle]
 pub extern "C" fn svga_offscreen(device: &[u32], edges: &mut [u32]) -> u32
     ensures { λ r. ⌜ edgesCall r (now (edges .exit)) ≡ svgaOffscreen (now (device .entry)) (now (edges .entry)) ⌝ }
@@ -209,9 +204,10 @@ pub extern "C" fn svga_offscreen(device: &[u32], edges: &mut [u32]) -> u32
         return LENT_LENGTH;
     }
     let spelled = device_words::spelled_in(device);
-    let e = edges_of(spelled);
-    put_edges(edges, e);
-    0
+    match spelled {
+        Held::Device(d) => put_offscreen(edges, d),
+        Held::Nothing => NO_REGISTER,
+    }
 }
 
 fn fence_value(d: Device) -> u64

@@ -101,12 +101,16 @@ impl Model {
         }
     }
 
-    /// Words that are not well formed: an empty rectangle.
+    /// Both lengths are looked at before the words. A refusal leaves the edges.
     pub fn offscreen(&self, device: &[u32], edges: &mut [u32]) -> u64 {
         if device.len() != DEVICE_WORDS || edges.len() != 4 {
             return 20;
         }
-        let found = from_words(device).map_or([0; 4], |held| self.edges(&held));
+        let found = match from_words(device) {
+            Some(held) => self.edges(&held),
+            None if self.breaks(Rule::OffscreenOfNoDevice) => [0; 4],
+            None => return 30,
+        };
         for (edge, number) in edges.iter_mut().zip(found) {
             *edge = u32::try_from(number).expect("an edge is a 32-bit number");
         }

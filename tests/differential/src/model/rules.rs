@@ -128,6 +128,7 @@ rules! {
     OffscreenRightWhole: "the offscreen rectangle has the mode's width",
     OffscreenBottomRoundedUp: "the offscreen rectangle's bottom is rounded up",
     OffscreenEmptyCut: "an offscreen bottom above the top is cut",
+    OffscreenOfNoDevice: "the offscreen rectangle of words that are no device is four zeros with answer 0",
     LastFenceNotPassed: "the last fence has not passed",
     FenceComparedPlainly: "fences are compared without wrapping",
     FenceHalfIncluded: "a fence 2^31 behind has passed",
