@@ -38,7 +38,7 @@ condition-back (Faulted BadOperand) = refl
 condition-back (Faulted TooLong) = refl
 condition-back (Faulted BadNext) = refl
 
-device-back : (d : Device) → deviceFrom (wordsOf d) ≡ d
+pub device-back : (d : Device) → deviceFrom (wordsOf d) ≡ d
 unfolding deviceFrom wordsOf
 device-back d =
     rw (bit-back (d .registers .enable), bit-back (d .registers .config), bit-back (d .plane .shown), bit-back (d .busy), defined-back (d .marks .defined), condition-back (d .condition))
