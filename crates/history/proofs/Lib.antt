@@ -8,4 +8,3 @@ pub mod Walks
 pub mod Starts
 pub mod NoHarm
 pub mod Refuted
-pub mod InWords
