@@ -39,7 +39,8 @@ use Rattle.adapter.proofs.Refusals.{refused-picture}
 use Rattle.history.proofs.KeptByRun.{refused-run, run-well-formed}
 use Rattle.history.specs.Calls.{World, Call, make, write, read, run, append, picture, offscreen, fence, passed, lend, CallOutcome, withDevice, perform, performAll}
 use Rattle.history.specs.Demand.{ringAtStart, isStart}
-use Rattle.history.specs.Keeping.{starting, answers, Keeping, reads, shows, edges, last-fence, has-passed, refusal, elsewhere, enabled, accepted, Leaves, NoRun}
+use Rattle.history.specs.Keeping.{starting, answers, Leaves, NoRun}
+use Rattle.history.specs.Keeping.{Keeping, reads, shows, edges, last-fence, has-passed, refusal, elsewhere, enabled, accepted}
 
 -- ---- what a start is, test by test
 

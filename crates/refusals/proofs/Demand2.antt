@@ -51,12 +51,14 @@ use Rattle.register_read.proofs.Refusals as ReadRefusals
 use Rattle.adapter.proofs.Refusals as PictureRefusals
 use Rattle.device_run.proofs.RunLaws.{run-by}
 use Rattle.refusals.specs.Refusing.{isRefusal, Sizes, Make34, Write30, Write31, Write32, Write20, Write33, Write0, Read30}
-use Rattle.refusals.specs.Refusing.{Run20, Run22, Run21, Run24, Run23, Starts, NextUsable, wholeWaiting, stopsAt, Reaches, RunLeaves, PictureLent, Picture20, Picture24, Append1}
+use Rattle.refusals.specs.Refusing.{Run20, Run22, Run21, Run24, Run23, Starts, NextUsable, wholeWaiting, stopsAt, Reaches, RunLeaves}
+use Rattle.refusals.specs.Refusing.{PictureLent, Picture20, Picture24, Append1}
 use Rattle.refusals.specs.Refusing.{Turn0, Turn10, HeadMissing, HeadBad, Turn12, WordsMissing, OperandBad, Executes}
 use Rattle.refusals.proofs.Reasons.{fails, sizes-good, ring-usable, not-usable, picture-lent, next-usable, next-unusable, ranged}
 use Rattle.refusals.proofs.Reasons.{end-number, stops-2, verdict-ends, run-stops, run-none, run-unusable, run-straight, fault-after, ring-carries}
 use Rattle.refusals.proofs.Reasons as Reasons
-use Rattle.refusals.proofs.Rules.{write-why, ended-taken, is-lent, not-lent, start, start-fits, start-ended, ran-leaves, leaves-one, by-refusals, run-why}
+use Rattle.refusals.proofs.Rules.{write-why, ended-taken, is-lent, not-lent, start, start-fits, start-ended, ran-leaves, leaves-one}
+use Rattle.refusals.proofs.Rules.{by-refusals, run-why}
 use Rattle.refusals.proofs.Rules.{turn-why, finds-0, finds-10, finds-1, finds-11, finds-12, finds-command}
 
 not-zero : {a : ℕ} → isRefusal a ≡ true → a ≡ 0 → ⊥

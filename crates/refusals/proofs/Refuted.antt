@@ -1,20 +1,26 @@
 -- The rules that readers' theorems are stated with are not met by everything: each refuses what document 01 does, and an if and only if with it says something.
 -- Assumes nothing.
-use mathlib.Core.Path.{_≡_, refl, sym, ap, _∙_}
-use mathlib.Core.Bool.{false, false≢true, true≢false}
+use mathlib.Core.Path.{_≡_, refl, sym, ap, subst, _∙_}
+use mathlib.Core.Bool.{true, false, false≢true, true≢false}
 use mathlib.Core.List.{List, [], _∷_}
+use mathlib.Core.Logic.{⊎-elim}
 use Prim.Native.Nat.{ℕ, suc, _*_, _≤_}
 use native.Mathlib.Omega.{arith}
+use lib.ListN.{length}
 use Rattle.ring.specs.declared.Ring.{Ring}
-use Rattle.ring.specs.Acceptance.{Usable}
-use Rattle.register.specs.declared.Writable.the-variants.{Width}
+use Rattle.ring.specs.Acceptance.{minOf, maxOf, nextOf, stopOf, Usable}
+use Rattle.ring.specs.Append.{movedOn}
+use Rattle.register.specs.declared.Writable.the-variants.{Id, Width}
+use Rattle.register.specs.Numbers.{numbers, registerOf}
 use Rattle.cursor.specs.Plane.{shapeGood}
 use Rattle.execution.specs.Straight.{straight}
 use Rattle.command.specs.Commands.{entry, kindOf}
 use Rattle.device.specs.declared.Device.{Device}
-use Rattle.device.specs.Device.{enabledOf}
+use Rattle.device.specs.declared.Condition.the-variants.{Running, Faulted}
+use Rattle.device.specs.Device.{pixelsOf, widthOf, heightOf, enabledOf, configuredOf, conditionOf}
 use Rattle.device_run.specs.Run.{Lent, RunOutcome}
-use Rattle.refusals.specs.Refusing.{isRefusal, Sizes, Ranged, Starts, NextUsable, leftBy, Reaches, RunLeaves}
+use Rattle.refusals.specs.Refusing.{isRefusal, Sizes, Make34, Ranged, Write30, Write31, Write32, Write20, Write33, Write0, Read30, PictureLent, Picture20, Picture24}
+use Rattle.refusals.specs.Refusing.{RunLent, Run20, Run22, Run21, Run24, Run23, Starts, NextUsable, leftBy, Reaches, RunLeaves, Append1}
 use Rattle.refusals.specs.Refusing.{Turn0, Turn10, HeadMissing, HeadBad, Turn12, WordsMissing, OperandBad, Executes}
 
 -- ---- answers: "Answers 20 to 34 change nothing"
@@ -38,7 +44,40 @@ sizes-not-10255 s = omega (arith, s .1)
 pub sizes-not-4096001 : ¬ Sizes 10256 4096001
 sizes-not-4096001 s = omega (arith, s .4)
 
+pub make-34-not-10256 : ¬ Make34 10256 1
+make-34-not-10256 n = n (refl, omega arith, omega arith, omega arith, omega arith)
+
 -- ---- registers and the ring
+
+-- 0 ID is there, to be written and read,
+pub write-30-not-id : ¬ Write30 0
+unfolding registerOf numbers
+write-30-not-id e = true≢false cc
+
+pub read-30-not-id : ¬ Read30 0
+read-30-not-id e = write-30-not-id e
+
+-- is not read-only,
+pub write-31-not-id : ¬ Write31 0
+unfolding registerOf numbers
+write-31-not-id (r, e) = true≢false cc
+
+-- and takes all values
+pub write-32-not-id : (v : ℕ) → ¬ Write32 0 v
+unfolding registerOf numbers
+write-32-not-id v (w, e, n) = let same : Id ≡ w = cc in n (subst (λ r. Ranged r v) same tt)
+
+-- 6 DEPTH is read-only
+pub write-0-not-depth : (d : Device) (ring : List ℕ) (v : ℕ) → ¬ Write0 d ring 6 v
+unfolding registerOf numbers
+write-0-not-depth d ring v (w, e, r, u) = true≢false cc
+
+-- CONFIG_DONE 0 does not ask for the ring
+pub write-20-not-0 : (d : Device) (ring : List ℕ) (index : ℕ) → ¬ Write20 d ring index 0
+write-20-not-0 d ring index x = omega (arith, x .1)
+
+pub write-33-not-usable : (d : Device) (ring : List ℕ) (index v : ℕ) → Usable ring → ¬ Write33 d ring index v
+write-33-not-usable d ring index v u x = x .3 u
 
 -- "2 WIDTH (1 to 2,560)"
 pub ranged-not-2561 : ¬ Ranged Width 2561
@@ -52,7 +91,41 @@ usable-not-three-words a b c u = omega (arith, u .there)
 pub usable-not-min-12 : (words : List ℕ) → ¬ Usable (12 ∷ words)
 usable-not-min-12 words u = omega (arith, u .low)
 
--- ---- a run
+-- an append that leaves NEXT_CMD before ring word 3, or past it, is taken
+pub append-1-not-room : (ring : List ℕ) → Usable ring → (¬ (movedOn (minOf ring) (maxOf ring) (nextOf ring) ≡ stopOf ring)) → ¬ Append1 ring
+append-1-not-room ring u room x = ⊎-elim (λ n. n u) room x
+
+-- ---- a run and a picture
+
+module _ (d : Device) (l : Lent) where
+  -- "the cursor image (4,096)"
+  pub lent-not-without-cursor : l .cursor ≡ [] → ¬ RunLent d l
+  lent-not-without-cursor none s = omega (arith, sym (ap length none) ∙ s .3)
+
+  pub run-20-not-lent : RunLent d l → ¬ Run20 d l
+  run-20-not-lent s n = n s
+
+  pub run-22-not-configured : configuredOf d ≡ true → ¬ Run22 d l
+  run-22-not-configured on x = true≢false (sym on ∙ x .1)
+
+  pub run-21-not-enabled : enabledOf d ≡ true → ¬ Run21 d l
+  run-21-not-enabled on x = true≢false (sym on ∙ x .2)
+
+  pub run-24-not-fitting : widthOf d * heightOf d ≤ pixelsOf d → ¬ Run24 d l
+  run-24-not-fitting fits x = omega (arith, x .3)
+
+  pub run-23-not-running : (g : Ring) → conditionOf d ≡ Running g → ¬ Run23 d l
+  run-23-not-running g r x = let same : Running g ≡ Faulted (x .4 .0) = sym r ∙ x .4 .1 in true≢false cc
+
+module _ (d : Device) (screen image output : List ℕ) where
+  pub picture-lent-not-without-cursor : image ≡ [] → ¬ PictureLent d screen image output
+  picture-lent-not-without-cursor none s = omega (arith, sym (ap length none) ∙ s .1)
+
+  pub picture-20-not-lent : PictureLent d screen image output → ¬ Picture20 d screen image output
+  picture-20-not-lent s n = n s
+
+  pub picture-24-not-fitting : widthOf d * heightOf d ≤ pixelsOf d → ¬ Picture24 d screen image output
+  picture-24-not-fitting fits x = omega (arith, x .1)
 
 -- "disabled"
 pub starts-not-disabled : (d : Device) (l : Lent) (g : Ring) → enabledOf d ≡ false → ¬ Starts d l g
