@@ -13,6 +13,7 @@ use mathlib.Core.Logic.{_↔_, _⊎_, inl, inr, ⊎-elim, Iff·trans}
 use Prim.Native.Nat.{ℕ, _*_, _≤_, _<_}
 use native.Mathlib.Omega.{arith}
 use lib.Dec.{eqb}
+use lib.ListN.{length}
 use borrow.Author.Tests.{eqb-true, eqb-false, leb-true, le-leb, lt-leb}
 use borrow.Table.Steps.{cases}
 use Rattle.geometry.proofs.Tests.{by-cond, not-both}
@@ -21,6 +22,9 @@ use Rattle.execution.specs.declared.Cause.the-variants.{NotOffered, BadOperand,
 use Rattle.execution.specs.declared.End.{End}
 use Rattle.execution.specs.declared.End.the-variants.{Drained, Waiting, Fault}
 use Rattle.execution.specs.Straight.{causeNumber, endNumber, Turn, ends, exec, Line}
+use Rattle.execution.specs.Turns.{runs}
+use Rattle.execution.proofs.Laws.{Laws}
+use Rattle.execution.proofs.QueueLaws.{RunsRight}
 use Rattle.ring.specs.declared.Ring.{Ring}
 use Rattle.ring.specs.Acceptance.{minOf, maxOf, nextOf, stopOf, usable}
 use Rattle.ring.specs.Waiting.{carried, nextGood}
@@ -32,7 +36,7 @@ use Rattle.register.specs.Numbers.{registerOf}
 use Rattle.command.specs.declared.Action.{Action}
 use Rattle.command.proofs.Laws.{command-laws}
 use Rattle.effect.specs.Effects.{Machine, done}
-use Rattle.run.specs.Run.{knownOf, runIn}
+use Rattle.run.specs.Run.{knownOf, left, fitting, runIn}
 use Rattle.device.specs.declared.Condition.{Condition}
 use Rattle.device.specs.declared.Condition.the-variants.{Faulted}
 use Rattle.device.specs.declared.Device.{Device}
@@ -51,13 +55,13 @@ use Rattle.register_read.proofs.Refusals as ReadRefusals
 use Rattle.adapter.proofs.Refusals as PictureRefusals
 use Rattle.device_run.proofs.RunLaws.{run-by}
 use Rattle.refusals.specs.Refusing.{isRefusal, Sizes, Make34, Write30, Write31, Write32, Write20, Write33, Write0, Read30}
-use Rattle.refusals.specs.Refusing.{Run20, Run22, Run21, Run24, Run23, Starts, NextUsable, wholeWaiting, stopsAt, Reaches, RunLeaves}
+use Rattle.refusals.specs.Refusing.{Run20, Run22, Run21, Run24, Run23, Starts, NextUsable, leftBy, passedBy, wholeWaiting, stopsAt, Reaches, RunLeaves}
 use Rattle.refusals.specs.Refusing.{PictureLent, Picture20, Picture24, Append1}
 use Rattle.refusals.specs.Refusing.{Turn0, Turn10, HeadMissing, HeadBad, Turn12, WordsMissing, OperandBad, Executes}
 use Rattle.refusals.proofs.Reasons.{fails, sizes-good, ring-usable, not-usable, picture-lent, next-usable, next-unusable, ranged}
 use Rattle.refusals.proofs.Reasons.{end-number, stops-2, verdict-ends, run-stops, run-none, run-unusable, run-straight, fault-after, ring-carries}
 use Rattle.refusals.proofs.Reasons as Reasons
-use Rattle.refusals.proofs.Rules.{write-why, ended-taken, is-lent, not-lent, start, start-fits, start-ended, ran-leaves, leaves-one}
+use Rattle.refusals.proofs.Rules.{write-why, ended-taken, is-lent, not-lent, start, start-fits, start-ended, ran-leaves, ran-waits, leaves-one}
 use Rattle.refusals.proofs.Rules.{by-refusals, run-why}
 use Rattle.refusals.proofs.Rules.{turn-why, finds-0, finds-10, finds-1, finds-11, finds-12, finds-command}
 
@@ -279,19 +283,35 @@ module _ (d : Device) (l : Lent) (budget : ℕ) where
     pub run-starts : run ≡ ran d l (runIn (sceneFor d l) g budget (l .ring) (machineOf d l))
     run-starts = start d l m g budget s
 
+    -- inside: the ring lies in its memory and carries the longest head, so that the laws of straight execution hold of it
+    fits : fitting g (length (l .ring)) (length (l .cursor)) ≡ true
+    fits = start-fits d l m g budget s
+
+    carries : 10 ≤ cap g
+    carries = ring-carries d m g (s .1) (s .4)
+
+    laws : Laws (cap g) (turnFor d l g)
+    laws = command-laws knownOf (done (sceneFor d l)) (cap g) carries
+
+    straight-so : NextUsable g (nextOf (l .ring))
+        → let r = runs (turnFor d l g) budget (lineOf d l g) in
+        (runIn (sceneFor d l) g budget (l .ring) (machineOf d l) ≡ left g (l .ring) (lineOf d l g .words) r)
+        × RunsRight (turnFor d l g) budget (lineOf d l g) r
+    straight-so u = run-straight (sceneFor d l) g budget (l .ring) (machineOf d l) fits (next-usable g (nextOf (l .ring)) .1 u) carries
+
     -- it answers 0, 1, 2, or 10 to 13
     pub run-answers : (run .answer ≤ 2) ⊎ ((10 ≤ run .answer) × (run .answer ≤ 13))
     run-answers = rw run-starts (start-ended d l m g budget s)
 
     -- "budget used up: 2"
     pub run-2 : (run .answer ≡ 2) ↔ (run .count ≡ budget)
-    run-2 = rw run-starts (stops-2 _ (run-stops _ g budget (l .ring) (machineOf d l) (start-fits d l m g budget s)))
+    run-2 = rw run-starts (stops-2 _ (run-stops _ g budget (l .ring) (machineOf d l) fits))
 
     -- "NEXT_CMD not a multiple of 4 or outside the ring: 13", where the budget is not used up
     pub run-13 : (run .answer ≡ 13) ↔ ((¬ NextUsable g (nextOf (l .ring))) × (¬ (budget ≡ 0)))
     run-13 =
         let u = next-unusable g (nextOf (l .ring)) in
-        let w = Reasons.run-13 _ g budget (l .ring) (machineOf d l) (start-fits d l m g budget s) (ring-carries d m g (s .1) (s .4)) in
+        let w = Reasons.run-13 _ g budget (l .ring) (machineOf d l) fits carries in
         rw run-starts (λ e. let x = w .0 e in (u .0 (x .0), x .1), λ x. w .1 (u .1 (x .0), x .1))
 
     -- "A fault consumes nothing of its command and stands": nothing is counted, the fault is remembered, BUSY is cleared; all else is as it was
@@ -300,50 +320,53 @@ module _ (d : Device) (l : Lent) (budget : ℕ) where
     unfolding conditionAfter busyAfter
     run-13-leaves n b =
         let bad = next-unusable g (nextOf (l .ring)) .1 n in
-        rw (run-starts, run-unusable (sceneFor d l) g budget (l .ring) (machineOf d l) (start-fits d l m g budget s) bad b) refl
+        rw (run-starts, run-unusable (sceneFor d l) g budget (l .ring) (machineOf d l) fits bad b) refl
 
     -- "budget used up: 2" comes first: with no budget nothing changes, whatever NEXT_CMD is
     pub run-no-budget : budget ≡ 0 → run ≡ record { answer = 2; count = 0; device = d; lent = l }
     unfolding conditionAfter busyAfter
     run-no-budget z =
-        rw (run-starts, run-none (sceneFor d l) g budget (l .ring) (machineOf d l) (start-fits d l m g budget s) z)
+        rw (run-starts, run-none (sceneFor d l) g budget (l .ring) (machineOf d l) fits z)
         (ap (λ (c : Condition). record { answer = 2; count = 0; device = withCondition d c; lent = l }) (sym (s .4)))
 
     -- where NEXT_CMD is usable: what it answers, counts and leaves, by straight execution alone
     pub run-leaves : NextUsable g (nextOf (l .ring)) → RunLeaves d l g budget run
-    run-leaves u =
-        let good = next-usable g (nextOf (l .ring)) .1 u in
-        let w = run-straight (sceneFor d l) g budget (l .ring) (machineOf d l) (start-fits d l m g budget s) good (ring-carries d m g (s .1) (s .4)) in
-        rw (run-starts, w .0) (ran-leaves d l g budget _ (w .1))
+    run-leaves u = rw (run-starts, straight-so u .0) (ran-leaves d l g budget _ (straight-so u .1))
 
     -- and nothing else meets that
     pub run-leaves-only : NextUsable g (nextOf (l .ring)) → (o : RunOutcome) → RunLeaves d l g budget o → o ≡ run
     run-leaves-only u o x = leaves-one d l g budget x (run-leaves u)
 
+    -- "The words left are those waiting": the next run goes on where this one stopped, if nobody writes the ring
+    pub run-waits : NextUsable g (nextOf (l .ring)) → lineOf (run .device) (run .lent) (passedBy d l g (run .count)) ≡ leftBy d l g (run .count)
+    run-waits u = rw (run-starts, straight-so u .0) (ran-waits d l g _ laws fits (next-usable g (nextOf (l .ring)) .1 u) (straight-so u .1 .goes))
+
     -- the line that straight execution stops at
     abbrev stop : Line Machine
     stop = stopsAt d l g
 
-    -- A run answers 0, 1, 10, 11 or 12 where the turn there does, if it comes there with budget left.
+    -- where NEXT_CMD is unusable it answers none of 0, 1, 10, 11 and 12,
+    ends-usable : (e : End) → endNumber e < 13 → run .answer ≡ endNumber e → NextUsable g (nextOf (l .ring))
+    ends-usable e small q =
+        cases (nextGood g (nextOf (l .ring))) (next-usable g (nextOf (l .ring)) .0)
+        (λ f.
+        cases (eqb budget 0)
+        (λ z.
+        let two : run .answer ≡ 2 = rw (run-no-budget (eqb-true _ _ z)) refl in
+        absurd (⊎-elim (λ a. omega arith) (λ a. omega arith) (end-number e)))
+        (λ z. let thirteen = run-13 .1 (next-unusable g (nextOf (l .ring)) .0 f, eqb-false _ _ z) in absurd (omega arith)))
+
+    -- and where it is usable, that of the turn there, if it comes there with budget left
+    ends-there : (e : End) → NextUsable g (nextOf (l .ring))
+        → (run .answer ≡ endNumber e) ↔ ((wholeWaiting d l g < budget) × (turnFor d l g (stop .machine) (stop .words) ≡ ends e))
+    ends-there e u = let x = run-leaves u in rw (x .answer) (verdict-ends (turnFor d l g) laws (lineOf d l g) budget (run .count) e (x .count))
+
     run-ends : {P : Type 0} (e : End) → endNumber e < 13 → (turnFor d l g (stop .machine) (stop .words) ≡ ends e) ↔ P
         → (run .answer ≡ endNumber e) ↔ (Reaches d l g budget × P)
-    run-ends e small w =
-        let laws = command-laws knownOf (done (sceneFor d l)) _ (ring-carries d m g (s .1) (s .4)) in
-        let by-verdict : (u : NextUsable g (nextOf (l .ring)))
-        → (run .answer ≡ endNumber e) ↔ ((wholeWaiting d l g < budget) × (turnFor d l g (stop .machine) (stop .words) ≡ ends e)) =
-        λ u. let x = run-leaves u in rw (x .answer) (verdict-ends (turnFor d l g) laws (lineOf d l g) budget (run .count) e (x .count)) in (
-          λ q.
-              cases (nextGood g (nextOf (l .ring)))
-              (λ t. let u = next-usable g (nextOf (l .ring)) .0 t in let x = by-verdict u .0 q in ((u, x .0), w .0 (x .1)))
-              (λ f.
-              let n = next-unusable g (nextOf (l .ring)) .0 f in
-              cases (eqb budget 0)
-              (λ z.
-              let two : run .answer ≡ 2 = rw (run-no-budget (eqb-true _ _ z)) refl in
-              absurd (⊎-elim (λ a. omega arith) (λ a. omega arith) (end-number e)))
-              (λ z. let thirteen = run-13 .1 (n, eqb-false _ _ z) in absurd (omega arith))),
-          λ x. by-verdict (x .0 .0) .1 (x .0 .1, w .1 (x .1)),
-        )
+    run-ends e small w = (
+      λ q. let u = ends-usable e small q in let x = ends-there e u .0 q in ((u, x .0), w .0 (x .1)),
+      λ x. ends-there e (x .0 .0) .1 (x .0 .1, w .1 (x .1)),
+    )
 
     -- "NEXT_CMD = STOP: 0."
     pub run-0 : (run .answer ≡ 0) ↔ (Reaches d l g budget × Turn0 (stop .words))

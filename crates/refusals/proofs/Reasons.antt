@@ -4,10 +4,11 @@ use mathlib.Core.Path.{_≡_, refl, sym, ap, _∙_}
 use mathlib.Core.Bool.{Bool, true, false, cond, false≢true, true≢false, _&&_}
 use mathlib.Core.List.{List}
 use mathlib.Core.Logic.{_↔_, _⊎_, inl, inr, ⊎-elim}
-use Prim.Native.Nat.{ℕ, zero, suc, _*_, _/_, _%_, _≤_, _<_, min}
+use Prim.Native.Nat.{ℕ, zero, suc, _+_, _-_, _*_, _/_, _%_, _≤_, _<_, min}
 use native.Mathlib.Omega.{arith}
 use lib.Dec.{eqb, leb}
-use lib.ListN.{length}
+use lib.ListN.{length, drop, length-drop}
+use lib.Seq.{drop-drop}
 use borrow.Author.Tests.{eqb-true, eqb-false, leb-true, ltb-true, eq-eqb, ne-eqb, le-leb, lt-ltb}
 use borrow.Table.Steps.{cases}
 use Rattle.geometry.proofs.Tests.{both, not-both}
@@ -19,7 +20,7 @@ use Rattle.execution.specs.Straight.{causeNumber, endNumber, Turn, ends, exec, 
 use Rattle.execution.specs.Table.{unless, turnOf}
 use Rattle.execution.specs.Claim.{Answer, spent, standing, ended, answerNumber, verdict}
 use Rattle.execution.specs.Turns.{runs}
-use Rattle.execution.proofs.Laws.{Laws, straight-total}
+use Rattle.execution.proofs.Laws.{Laws, Goes, here, on, goes-shorter, straight-total}
 use Rattle.execution.proofs.QueueLaws.{runs-ends, runs-exec, RunsRight, run-right}
 use Rattle.ring.specs.declared.Ring.{Ring}
 use Rattle.ring.specs.Waiting.{waiting, carried, placed, nextGood}
@@ -213,6 +214,16 @@ verdict-ends turn laws a b c e many =
       λ z. (omega arith, stops ∙ ap ends (same-end (ending turn a) e z)),
       λ x. ap (λ t. endNumber (endOf t)) (sym stops ∙ x .1),
     ))
+
+-- steps drop words from the front
+pub goes-words : {S : Type 0} (turn : S → List ℕ → Turn S) {cap : ℕ} → Laws cap turn → {k : ℕ} {a b : Line S} → Goes turn k a b
+    → b .words ≡ drop (length (a .words) - length (b .words)) (a .words)
+goes-words turn laws (here {a}) = let none : length (a .words) - length (a .words) ≡ 0 = omega arith in rw none refl
+goes-words turn laws (on {k} {n} {a} {b} {s} q g) =
+    let there = laws .takes-whole (a .machine) s (a .words) n q in
+    let gone : n + (length (drop n (a .words)) - length (b .words)) ≡ length (a .words) - length (b .words) =
+    omega (arith, goes-shorter turn g, length-drop n (a .words)) in
+    goes-words turn laws g ∙ drop-drop (length (drop n (a .words)) - length (b .words)) n (a .words) ∙ ap (λ k. drop k (a .words)) gone
 
 -- ---- a run of a ring that lies in its memory
 

@@ -4,10 +4,11 @@ use mathlib.Core.Path.{_≡_, refl, sym, ap, subst, _∙_}
 use mathlib.Core.Bool.{true, false, cond}
 use mathlib.Core.List.{List}
 use mathlib.Core.Logic.{_≢_, _↔_, _⊎_, inl, inr, ⊎-elim}
-use Prim.Native.Nat.{ℕ, _*_, _≤_, min}
+use Prim.Native.Nat.{ℕ, _-_, _*_, _/_, _≤_, min}
 use native.Mathlib.Omega.{arith}
 use lib.Dec.{eqb}
-use lib.ListN.{length, take}
+use lib.ListN.{length, take, set}
+use lib.Seq.{getD-set-other}
 use borrow.Author.Tests.{eqb-true, eqb-false, ne-eqb, leb-true, leb-false, le-leb, lt-leb}
 use borrow.Table.Steps.{cases}
 use Rattle.geometry.proofs.Tests.{by-cond, not-both}
@@ -17,14 +18,19 @@ use Rattle.execution.specs.Straight.{Turn, ends, exec, Line}
 use Rattle.execution.specs.Table.{turnOf}
 use Rattle.execution.specs.Claim.{Answer, answerNumber}
 use Rattle.execution.specs.Turns.{LineRun}
-use Rattle.execution.proofs.Laws.{goes-steps, goes-straight}
+use Rattle.execution.proofs.Laws.{Laws, Goes, goes-steps, goes-straight}
 use Rattle.execution.proofs.QueueLaws.{RunsRight}
 use Rattle.ring.specs.declared.Ring.{Ring}
+use Rattle.ring.specs.Acceptance.{nextOf}
+use Rattle.ring.specs.Waiting.{ahead, between, waiting, nextGood}
+use Rattle.ring.proofs.Laws.{placed-when}
+use Rattle.ring.proofs.WaitingLaws.{length-waiting, words-left, words-left-written}
 use Rattle.command.specs.declared.Action.{Action}
 use Rattle.command.specs.Commands.{Known, entry, sizeBy, kindIn, commands}
 use Rattle.command.proofs.Rules.{Ruled, foreign, no-head, bad-head, long, no-rest, bad, well, ruled, by-rule, turn-none}
 use Rattle.effect.specs.Effects.{Machine}
 use Rattle.run.specs.Run.{RingOutcome, stamped, left, fitting, runIn}
+use Rattle.run.proofs.RunLaws.{fitting-placed, can-view}
 use Rattle.device.specs.declared.Condition.{Condition}
 use Rattle.device.specs.declared.Condition.the-variants.{Idle, Running, Faulted}
 use Rattle.device.specs.declared.Device.{Device}
@@ -38,7 +44,7 @@ use Rattle.refusals.specs.Refusing.{isRefusal, Write30, Write31, Write32
 use Rattle.refusals.specs.Refusing.{leftBy, passedBy, wholeWaiting, answerBy, RunLeaves}
 use Rattle.refusals.specs.Refusing.{Turn0, Turn10, HeadMissing, HeadBad, Turn12, WordsMissing, OperandBad, Executes}
 use Rattle.refusals.proofs.Reasons.{fails, ring-usable, not-usable, lent-good, ranged}
-use Rattle.refusals.proofs.Reasons.{stops-numbers, run-stops, not-idle, ring-fits}
+use Rattle.refusals.proofs.Reasons.{stops-numbers, goes-words, run-stops, not-idle, ring-fits}
 
 -- ---- register write
 
@@ -116,6 +122,30 @@ module _ (d : Device) (l : Lent) where
         registers = refl;
         plane = refl;
       }
+
+  -- and the words that wait then are those left
+  pub ran-waits : (g : Ring) (r : LineRun Machine) → {cap : ℕ} → Laws cap (turnFor d l g) → fitting g (length (l .ring)) (length (l .cursor)) ≡ true
+      → nextGood g (nextOf (l .ring)) ≡ true → Goes (turnFor d l g) (r .count) (lineOf d l g) (r .line)
+      → let o = ran d l (left g (l .ring) (lineOf d l g .words) r) in
+      lineOf (o .device) (o .lent) (passedBy d l g (o .count)) ≡ leftBy d l g (o .count)
+  unfolding left stamped
+  ran-waits g r laws fits good goes =
+      let lo = g .min in
+      let hi = g .max in
+      let next = nextOf (l .ring) / 4 in
+      let gone = length (lineOf d l g .words) - length (r .line .words) in
+      let v = can-view g (length (l .ring)) (length (l .cursor)) (nextOf (l .ring)) fits good in
+      let p = placed-when g (length (l .ring)) (fitting-placed g _ _ fits) in
+      let few : gone ≤ between lo hi (g .stop) next = omega (arith, length-waiting (l .ring) lo hi (g .stop) next) in
+      let rest = sym (goes-words (turnFor d l g) laws goes) in
+      let at : List ℕ → List ℕ = λ ring. waiting ring lo hi (ahead lo hi (g .stop) gone) (nextOf ring / 4) in
+      let same : at (cond (eqb (r .count) 0) (l .ring) (set (l .ring) 3 (ahead lo hi (g .stop) gone * 4))) ≡ r .line .words =
+      cases (eqb (r .count) 0)
+      (λ z. rw z (words-left (l .ring) lo hi (g .stop) next gone (v .0) (v .1) (v .2) (v .3) few ∙ rest))
+      (λ z.
+      rw (z, getD-set-other (l .ring) 3 2 (ahead lo hi (g .stop) gone * 4) 0 (omega arith))
+      (words-left-written (l .ring) lo hi (g .stop) next gone _ (p .past-head) (v .0) (v .1) (v .2) (v .3) few ∙ rest)) in
+      rw (goes-straight (turnFor d l g) goes) (λ i. record { words = same i; machine = r .line .machine })
 
   module _ (g : Ring) (budget : ℕ) where
     -- the outcome whose count is k
