@@ -1,3 +1,4 @@
 pub mod Refusals
 pub mod Readings
+pub mod ByIndex
 pub mod Negotiation

@@ -2,3 +2,4 @@ pub mod Answers
 pub mod Registers
 pub mod AfterWrites
 pub mod Negotiation
+pub mod AfterWrite

@@ -1,7 +1,7 @@
 -- Each register's effect: which parts of a device it can change, that a well-formed device stays so, and the register's own law.
 -- No other law looks into what a register's effect is.
 -- Assumes nothing.
-use mathlib.Core.Path.{_≡_, refl, sym}
+use mathlib.Core.Path.{_≡_, refl, sym, _∙_}
 use mathlib.Core.Logic.{_≢_}
 use mathlib.Core.Bool.{Bool, true, false, cond, _&&_, _||_, and-assoc}
 use Prim.Native.Nat.{ℕ}
@@ -13,7 +13,8 @@ use Rattle.geometry.proofs.Tests.{both}
 use Rattle.register.specs.declared.Register.the-variants.{Writes}
 use Rattle.register.specs.declared.Writable.{Writable}
 use Rattle.register.specs.declared.Writable.the-variants.{Id, Enable, Width, Height, ConfigDone, Sync, GuestId, CursorId, CursorX, CursorY, CursorOn}
-use Rattle.register.specs.Numbers.{numberOf}
+use Rattle.register.specs.Numbers.{registerOf, numberOf}
+use Rattle.register.proofs.ByNumber.{writable-number}
 use Rattle.device.specs.declared.Condition.{Condition}
 use Rattle.device.specs.declared.Condition.the-variants.{Idle, Running, Faulted}
 use Rattle.device.specs.declared.Device.{Device}
@@ -26,6 +27,10 @@ use Rattle.register_write.specs.Registers.{inRange, isId, idWritten, ena
 -- w is the register r
 abbrev pub is : Writable → Writable → Bool
 is w r = eqb (numberOf (Writes w)) (numberOf (Writes r))
+
+-- a register whose number is not that of r is not r
+pub is-other : (index : ℕ) (w r : Writable) → registerOf index ≡ Writes w → (index ≡ numberOf (Writes r) → ⊥) → is w r ≡ false
+is-other index w r q n = ne-eqb _ _ (λ e. n (writable-number index w q ∙ e))
 
 -- d with the parts from e that a write of w can change: the register's own value; ENABLE, CONFIG_DONE and SYNC: BUSY; CONFIG_DONE: the
 -- condition; CURSOR_ON: the plane.
