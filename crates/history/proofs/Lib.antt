@@ -8,3 +8,4 @@ pub mod Walks
 pub mod Starts
 pub mod NoHarm
 pub mod Refuted
+pub mod IdGatesNothing

@@ -3,3 +3,4 @@ pub mod Harm
 pub mod Demand
 pub mod Keeping
 pub mod Replay
+pub mod OtherId

@@ -69,7 +69,7 @@ others CursorOn d e = refl
 
 -- ---- readings
 
-reads-changed : (d e : Device) (w : Writable) (r : Register) → affects w r ≡ false → readBy (changedBy w d e) r ≡ readBy d r
+pub reads-changed : (d e : Device) (w : Writable) (r : Register) → affects w r ≡ false → readBy (changedBy w d e) r ≡ readBy d r
 reads-changed d e w r f =
     let after = changedBy w d e in
     read-at after r
