@@ -1,3 +1,4 @@
 pub mod Holds
 pub mod TablesHold
 pub mod Caught
+pub mod Refuted
