@@ -60,10 +60,10 @@ module _ (s : Scene) (m : Machine) where
   -- after one command the fence is 7, whatever else waits
   pub touches-nothing : TouchesNothing s m
   unfolding straight unless turnOf taken counted fed countAll entry kindOf commands E.done fenceAfter definedAfter
-  touches-nothing zero-before z f same d =
+  touches-nothing other-before z f same d =
       let new : fenceIn z ≡ 7 = ap fenceIn (d .same) in
       let old : fenceIn z ≡ m .marks .fence = ap (λ (x : Machine). x .marks .fence) same in
-      omega arith
+      other-before (sym old ∙ new)
 
   pub whole-ring-at-once : WholeRingAtOnce s m
   unfolding straight unless turnOf taken counted fed countAll entry kindOf commands E.done fenceAfter definedAfter

@@ -33,7 +33,8 @@ answering r [] = []
 answering r (append x ∷ os) = record { op = append x; reply = appended true } ∷ answering r os
 answering r (run b ∷ os) = record { op = run b; reply = r } ∷ answering r os
 
--- ---- runs in a list of operations, by demand 3
+-- ---- runs in a list of operations, by demand 3: lists of one or two FENCEs and a run, which touch neither screen nor cursor, so that nothing is asked of
+-- the mode or of any length
 
 abbrev pub fenceIn : Line Machine → ℕ
 fenceIn z = z .machine .marks .fence
@@ -41,7 +42,7 @@ fenceIn z = z .machine .marks .fence
 abbrev pub Anything : Line Machine → Type 0
 Anything z = Unit {0}
 
--- Over document 01's commands and the smallest ring, in any mode with any framebuffer, from any screen, cursor and last fence:
+-- Over document 01's commands and the smallest ring, which carries 2,559 words; in any mode with any framebuffer, from any screen, cursor and last fence:
 module _ (s : Scene) (m : Machine) where
   -- operations with their answers have led to the words waiting and the machine z, and to the standing fault f, as demand 3 claims.
   abbrev pub Claimed : List Event → Line Machine → Option Cause → Type 0
@@ -59,9 +60,10 @@ module _ (s : Scene) (m : Machine) where
   abbrev pub AlwaysDrained : Type 0
   AlwaysDrained = Caught (fence 7 ++ run 1 ∷ []) (ran (ended Drained) 0) Anything
 
-  -- ".. or touches nothing": it gives the right answer and count, and screen, cursor and fence are the old ones.
+  -- ".. or touches nothing": it gives the right answer and count, and screen, cursor and fence are the old ones. The last fence was another than 7: else
+  -- FENCE 7 itself leaves all of that as it was.
   abbrev pub TouchesNothing : Type 0
-  TouchesNothing = m .marks .fence ≡ 0 → Caught (fence 7 ++ run 1 ∷ []) (ran spent 1) (λ z. z .machine ≡ m)
+  TouchesNothing = (m .marks .fence ≡ 7 → ⊥) → Caught (fence 7 ++ run 1 ∷ []) (ran spent 1) (λ z. z .machine ≡ m)
 
   -- "a first run of budget 1 that executes the whole ring while later runs only count": it gives the right answer and count, and the fence is 8.
   abbrev pub WholeRingAtOnce : Type 0
@@ -87,7 +89,7 @@ pub record CanRun (d : Device) (l : Lent) : Type 0 where
   pub place : Ring
   pub running : d .condition ≡ Running place
 
--- "a run that refuses everything": there a run answers 0, 1, 2 or a fault, of any budget.
+-- "a run that refuses everything": there a run answers 0, 1, 2 or a fault, of any budget, whatever its ring and its memories hold.
 abbrev pub NotRefused : Type 0
 NotRefused = (d : Device) (l : Lent) (budget : ℕ) → CanRun d l → runOf d l budget .answer ≤ 13
 
@@ -107,7 +109,8 @@ abbrev pub twoFences : ℕ → List ℕ → List ℕ
 twoFences stop rest = 16 ∷ 10256 ∷ 32 ∷ stop ∷ 30 ∷ 7 ∷ 30 ∷ 8 ∷ rest
 
 -- A run of budget 1 executes FENCE 7 and no more: answer 2, count 1, the last fence is 7, STOP and ring word 3 are two words on, all else is as it was.
--- No impostor gives that: it is not refused, not drained, not untouched, not the whole ring and no other count.
+-- No impostor gives that: it is not refused, not drained, not untouched, not the whole ring and no other count. It is of this one device, from the last
+-- fence 0, with every lent length right and any other words.
 abbrev pub OneFence : Type 0
 OneFence =
     (rest framebuffer screen cursor : List ℕ) → length rest ≡ 2556 → length framebuffer ≡ 4 → length screen ≡ 4 → length cursor ≡ 4096
@@ -127,6 +130,7 @@ shows = record {
   condition = Idle;
 }
 
--- "a picture that is always the bare screen": over a black screen the cursor's pixel is a full blue, and the picture is not the screen.
+-- "a picture that is always the bare screen": over a black screen the cursor's pixel is a full blue, and the picture of this one device is not the screen.
+-- The cursor image is lent with its 4,096 words, of which the picture reads the first.
 abbrev pub BareScreen : Type 0
 BareScreen = (rest : List ℕ) → length rest ≡ 4095 → (pictureOf shows (0 ∷ []) (0xFF0000FF ∷ rest) (0 ∷ []) .output ≡ 0 ∷ []) → ⊥
