@@ -107,9 +107,9 @@ fn put_answer(answer: ConsoleAnswer, out: &mut [u8], at: usize) -> usize
     }
 }
 
-// Puts an answer's text behind the first at bytes of out, and answers how many bytes there are then. An answer has at most 26 bytes;
-// where out has no room for so many, nothing is put.
-// Rules out: a number with leading zeros; a text that is cut short for want of room.
+// Puts an answer's text behind the first at bytes of out, and answers how many bytes there are then; every other byte of out is as it was.
+// An answer has at most 26 bytes; where out has no room for so many, nothing is put.
+// Rules out: a number with leading zeros; a text that is cut short for want of room; a byte behind the text that changes.
 pub fn print(answer: ConsoleAnswer, out: &mut [u8], at: usize) -> usize
     ensures { λ r. ⌜ Put (now (out .entry)) at (shown (length (now (out .entry))) at answer) (now (out .exit)) r ⌝ }
 {

@@ -16,6 +16,7 @@ use Rattle.console_answers.specs.declared.ConsoleAnswer.{ConsoleAnswer}
 use Rattle.console_answers.specs.Text.{textOf}
 use Rattle.console_answers.specs.Put.{Put, shown}
 use Rattle.console_answers.proofs.Decimal.{text-short}
+use Rattle.console_answers.proofs.Putting.{put-taken}
 use Rattle.console_session.specs.Console.{Console, Performed, performed}
 use Rattle.console_session.specs.Session.{State, answered, kept}
 
@@ -46,4 +47,4 @@ module _ (c : Console) (line out after : List ℕ) (held at end : ℕ) (q : Requ
       ≡ answered (record { console = c; held = take held line; printed = take at out })
   unfolding answered shown
   line-answered e f h put =
-      let t = rw (le-leb _ _ h) at (put .bytes) in rw (← e, ← f, t)
+      let t = rw (le-leb _ _ h) at (put-taken put) in rw (← e, ← f, t)
