@@ -51,9 +51,9 @@ put-none out at = record { bytes = rw (append-nil, add-zero) (sym (take-append-d
 pub put-then : {a b c t u : List ℕ} {at mid end : ℕ} → Put a at t b mid → Put b mid u c end → Put a at (t ++ u) c end
 put-then {a} {b} {c} {t} {u} {at} p q = record {
   bytes =
-    q .bytes
-    ∙ rw (p .ends, p .bytes, up-to a at t, ← (drop-drop (length u) (at + length t) (putAt a at t)), behind a at t)
-    (rw (append-assoc (take at a) t u, drop-drop, length-append, add-assoc));
+      q .bytes
+      ∙ rw (p .ends, p .bytes, up-to a at t, ← (drop-drop (length u) (at + length t) (putAt a at t)), behind a at t)
+      (rw (append-assoc (take at a) t u, drop-drop, length-append, add-assoc));
   ends = omega (arith, length-append t u, p .ends, q .ends);
 }
 

@@ -18,7 +18,8 @@ use Rattle.device.specs.Device.{fresh, sizesGood}
 use Rattle.device.specs.Making.{Creation, creation, madeOf}
 use Rattle.console_session.specs.declared.Session.{Session}
 use Rattle.console_session.specs.Console.{memory, pixels}
-use Rattle.console_session.specs.Session.{State, fed, fedAll, fits, Within}
+use Rattle.console_session.specs.Session.{State, fed, fedAll, flushed, fits, Within, Line, lineByte, lineFed}
+use Rattle.console_session.proofs.Behind.{fed-text, flushed-all}
 
 pub fed-behind : (s : State) (a : List ℕ) (b : ℕ) → fedAll s (a ++ (b ∷ [])) ≡ fed (fedAll s a) b
 unfolding fedAll
@@ -28,6 +29,24 @@ fed-behind s (x ∷ a) b = fed-behind (fed s x) a b
 pub fed-one : (s : State) (chunk : List ℕ) (i : ℕ) → i < length chunk
     → fedAll s (take (i + 1) chunk) ≡ fed (fedAll s (take i chunk)) (getD chunk i 0)
 fed-one s chunk i h = rw (add-one, take-suc chunk i 0 h) (fed-behind s (take i chunk) (getD chunk i 0))
+
+-- What the chunk's first bytes print.
+pub text-one : (s : State) (chunk : List ℕ) (i : ℕ) → i < length chunk
+    → fedAll (flushed s) (take (i + 1) chunk) .printed
+    ≡ fedAll (flushed s) (take i chunk) .printed ++ fed (flushed (fedAll s (take i chunk))) (getD chunk i 0) .printed
+text-one s chunk i h =
+    ap (λ (t : State). t .printed) (fed-one (flushed s) chunk i h)
+    ∙ fed-text (fedAll (flushed s) (take i chunk)) (getD chunk i 0)
+    ∙ ap (λ (t : State). fedAll (flushed s) (take i chunk) .printed ++ fed t (getD chunk i 0) .printed) (flushed-all s (take i chunk))
+
+line-behind : (l : Line) (a : List ℕ) (b : ℕ) → lineFed l (a ++ (b ∷ [])) ≡ lineByte (lineFed l a) b
+unfolding lineFed
+line-behind l [] b = refl
+line-behind l (x ∷ a) b = line-behind (lineByte l x) a b
+
+pub line-one : (l : Line) (chunk : List ℕ) (i : ℕ) → i < length chunk
+    → lineFed l (take (i + 1) chunk) ≡ lineByte (lineFed l (take i chunk)) (getD chunk i 0)
+line-one l chunk i h = rw (add-one, take-suc chunk i 0 h) (line-behind l (take i chunk) (getD chunk i 0))
 
 -- The loop over a chunk: of its bytes i are fed, and what is printed has room.
 pub record Feeding (s t : Session) (i chunk : ℕ) : Type 0 where

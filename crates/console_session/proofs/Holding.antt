@@ -18,7 +18,7 @@ use Rattle.console_answers.specs.Put.{Put, shown}
 use Rattle.console_answers.proofs.Decimal.{text-short}
 use Rattle.console_answers.proofs.Putting.{put-taken}
 use Rattle.console_session.specs.Console.{Console, Performed, performed}
-use Rattle.console_session.specs.Session.{State, answered, kept}
+use Rattle.console_session.specs.Session.{State, answered, kept, lineWith, lineKept}
 
 pub kept-more : (line : List ℕ) (held b : ℕ) → held < 32 → held < length line → take (held + 1) (set line held b) ≡ kept (take held line) b
 unfolding kept
@@ -31,6 +31,15 @@ unfolding kept
 kept-all line held b h there =
     let n = length-take-le held line there in
     let full : 32 ≤ length (take held line) = omega arith in rw (le-ltb _ _ full)
+
+-- The line's bytes, to the last.
+pub set-behind : (line : List ℕ) (held b : ℕ) → held < 32 → lineWith (held + 1) (set line held b) ≡ lineKept (lineWith held line) b
+unfolding lineKept
+set-behind line held b h = rw (lt-ltb held 32 h)
+
+pub left-out : (line : List ℕ) (held b : ℕ) → 32 ≤ held → lineWith held line ≡ lineKept (lineWith held line) b
+unfolding lineKept
+left-out line held b h = rw (le-ltb held 32 h)
 
 chosen-short : (t : Bool) (a : ConsoleAnswer) → length (cond t (textOf a) []) ≤ 26
 chosen-short true a = text-short a
@@ -48,3 +57,10 @@ module _ (c : Console) (line out after : List ℕ) (held at end : ℕ) (q : Requ
   unfolding answered shown
   line-answered e f h put =
       let t = rw (le-leb _ _ h) at (put-taken put) in rw (← e, ← f, t)
+
+  -- what that prints
+  pub line-printed : q ≡ requestOf (take held line) → p ≡ performed c q → at + 26 ≤ length out
+      → Put out at (shown (length out) at (p .answer)) after end
+      → Put out at (answered (record { console = c; held = take held line; printed = [] }) .printed) after end
+  unfolding answered shown
+  line-printed e f h put = rw (← e, ← f) (rw (le-leb _ _ h) at put)

@@ -1,3 +1,4 @@
 pub mod Holding
+pub mod Behind
 pub mod Feeding
 pub mod Meeting

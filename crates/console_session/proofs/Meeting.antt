@@ -19,7 +19,8 @@ use Rattle.console_lines.proofs.Long.{first-bytes}
 use Rattle.console_answers.specs.Text.{textOf}
 use Rattle.console_session.specs.Console.{Console, Performed, performed, memory, ringWords, pixels, ringStart, start}
 use Rattle.console_session.specs.Output.{answersTo, outputOf}
-use Rattle.console_session.specs.Session.{State, begun, told, answered, kept, fed, fedAll, ended, flushed, writtenOut, joined, stateOf}
+use Rattle.console_session.specs.Session.{State, begun, answered, kept, fed, fedAll, ended, flushed, writtenOut, served, joined, stateOf}
+use Rattle.console_session.proofs.Behind.{behind-all, behind-ended, flushed-behind, flushed-all}
 
 -- ---- lines with held bytes in front
 
@@ -104,34 +105,6 @@ unfolding fedAll
 fed-more s [] b = refl
 fed-more s (x ∷ a) b = fed-more (fed s x) a b
 
--- A state that had printed p before.
-abbrev behind : List ℕ → State → State
-behind p s = record { console = s .console; held = s .held; printed = p ++ s .printed }
-
-behind-answered : (p : List ℕ) (s : State) → answered (behind p s) ≡ behind p (answered s)
-unfolding answered
-behind-answered p s = rw append-assoc
-
-behind-chosen : (p : List ℕ) (t : Bool) (a b : State) → cond t (behind p a) (behind p b) ≡ behind p (cond t a b)
-behind-chosen p true a b = refl
-behind-chosen p false a b = refl
-
-behind-fed : (p : List ℕ) (s : State) (b : ℕ) → fed (behind p s) b ≡ behind p (fed s b)
-unfolding fed
-behind-fed p s b = rw (behind-answered p s) (behind-chosen p (eqb b 10) (answered s) _)
-
-behind-all : (p : List ℕ) (s : State) (bs : List ℕ) → fedAll (behind p s) bs ≡ behind p (fedAll s bs)
-unfolding fedAll
-behind-all p s [] = refl
-behind-all p s (b ∷ bs) = rw (behind-fed p s b) (behind-all p (fed s b) bs)
-
-behind-ended : (p : List ℕ) (s : State) → ended (behind p s) ≡ behind p (ended s)
-unfolding ended
-behind-ended p s = rw (behind-answered p s) (behind-chosen p (leb 1 (length (s .held))) (answered s) s)
-
-flushed-behind : (s : State) → behind (s .printed) (flushed s) ≡ s
-flushed-behind s = rw append-nil
-
 -- What was printed before a chunk stays in front.
 from-flushed : (s : State) (bs : List ℕ) → ended (fedAll s bs) .printed ≡ s .printed ++ ended (fedAll (flushed s) bs) .printed
 from-flushed s bs =
@@ -147,6 +120,21 @@ written-out s (chunk ∷ chunks) =
 -- However the input is cut into chunks, what is written in all is its output.
 pub by-chunks : (chunks : List (List ℕ)) → writtenOut begun chunks ≡ outputOf (joined chunks)
 by-chunks chunks = written-out begun chunks ∙ by-bytes (joined chunks)
+
+-- And the state then is, but for the text, that of all their bytes.
+pub served-fed : (s : State) (chunks : List (List ℕ)) → flushed (served s chunks) ≡ flushed (fedAll s (joined chunks))
+unfolding served joined fedAll
+served-fed s [] = refl
+served-fed s (chunk ∷ chunks) =
+    served-fed (flushed (fedAll s chunk)) chunks
+    ∙ flushed-all (fedAll s chunk) (joined chunks)
+    ∙ rw (fed-more s chunk (joined chunks))
+
+-- One chunk more is served.
+pub served-one : (s : State) (chunks : List (List ℕ)) (chunk : List ℕ) → served s (chunks ++ (chunk ∷ [])) ≡ flushed (fedAll (served s chunks) chunk)
+unfolding served
+served-one s [] chunk = refl
+served-one s (c ∷ chunks) chunk = served-one (flushed (fedAll s c)) chunks chunk
 
 -- A session that begins on memories that are zero is the console's start.
 pub begins : (line out : List ℕ)

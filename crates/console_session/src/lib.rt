@@ -1,6 +1,7 @@
 // The console: requests on a device and its memories, and a session that is fed its input byte by byte.
 ghost use Prim.Native.Nat.{_+_, _*_, _≤_};
 ghost use mathlib.Core.Path.{_≡_};
+ghost use mathlib.Core.List.{[]};
 ghost use lib.ListN.{length, getD, set, take};
 ghost use Rattle.ring.specs.Append.{appendOf};
 ghost use Rattle.device.specs.Device.{fresh};
@@ -10,6 +11,7 @@ ghost use Rattle.device_run.specs.Run.{lentBefore, lentAfter};
 ghost use Rattle.console_lines.specs.declared.Request.the-variants.{Run};
 ghost use Rattle.console_session.specs.Console.{performed, consoleOf, memory, pixels, ringStart};
 ghost use Rattle.console_session.specs.Session.{stateBefore, stateAfter, answered, kept, fed, fedAll, ended, fits, Within, HasRoom, ifRoom, emptied};
+ghost use Rattle.console_session.specs.Session.{lineWith, lineBefore, rested, lineKept, lineByte, lineFed, unprinted, Leaves};
 ghost use Rattle.console_session.specs.Parts.{performedOf, keepingOf, writtenOf, appendAnswer, readyWith};
 use adapter::Device;
 use adapter::Making;
@@ -166,6 +168,8 @@ fn answer_line(
     requires { ⌜ Within s 1 (length (now line)) (length (now out)) ⌝ }
     ensures { λ r. ⌜ stateAfter r line (lentAfter ring framebuffer screen cursor) out
         ≡ answered (stateBefore s line (lentBefore ring framebuffer screen cursor) out) ⌝ }
+    ensures { λ r. ⌜ Leaves s r line out (rested (lineBefore s line))
+        (answered (unprinted s line (lentBefore ring framebuffer screen cursor)) .printed) ⌝ }
     ensures { λ r. ⌜ HasRoom r 0 line out ⌝ }
     ensures { λ r. ⌜ r .printed ≤ s .printed + 26 ⌝ }
 {
@@ -188,6 +192,7 @@ fn keep(line: &mut [u8], held: usize, b: u8) -> usize
     requires { ⌜ length (now line) ≡ 32 ⌝ }
     requires { ⌜ held ≤ 32 ⌝ }
     ensures { λ r. ⌜ take r (now (line .exit)) ≡ kept (take held (now (line .entry))) b ⌝ }
+    ensures { λ r. ⌜ lineWith r (now (line .exit)) ≡ lineKept (lineWith held (now (line .entry))) b ⌝ }
     ensures { λ r. ⌜ r ≤ 32 ⌝ }
 {
     if held < 32 {
@@ -210,6 +215,8 @@ fn feed_byte(
     requires { ⌜ Within s 1 (length (now line)) (length (now out)) ⌝ }
     ensures { λ r. ⌜ stateAfter r line (lentAfter ring framebuffer screen cursor) out
         ≡ fed (stateBefore s line (lentBefore ring framebuffer screen cursor) out) b ⌝ }
+    ensures { λ r. ⌜ Leaves s r line out (lineByte (lineBefore s line) b)
+        (fed (unprinted s line (lentBefore ring framebuffer screen cursor)) b .printed) ⌝ }
     ensures { λ r. ⌜ HasRoom r 0 line out ⌝ }
     ensures { λ r. ⌜ r .printed ≤ s .printed + 26 ⌝ }
 {
@@ -233,6 +240,8 @@ fn feed_bytes(
     requires { ⌜ Within s (length (now chunk)) (length (now line)) (length (now out)) ⌝ }
     ensures { λ r. ⌜ stateAfter r line (lentAfter ring framebuffer screen cursor) out
         ≡ fedAll (stateBefore s line (lentBefore ring framebuffer screen cursor) out) (now (chunk .entry)) ⌝ }
+    ensures { λ r. ⌜ Leaves s r line out (lineFed (lineBefore s line) (now (chunk .entry)))
+        (fedAll (unprinted s line (lentBefore ring framebuffer screen cursor)) (now (chunk .entry)) .printed) ⌝ }
     ensures { λ r. ⌜ HasRoom r 0 line out ⌝ }
 {
     let mut t = s;
@@ -288,9 +297,10 @@ pub fn begin(ring: &mut [u32]) -> Start
     })
 }
 
-// Feeds a chunk of the input. The text goes behind what out has; the line has 32 bytes. Where out has no room for 26 bytes to each byte
-// of the chunk, nothing changes and nothing is printed.
-// Rules out: a line that the chunk's end cuts in two; an answer out of order or cut short.
+// Feeds a chunk of the input. The text goes behind what out has, and of the line's 32 bytes those change that the chunk sets; every other
+// byte of both is as it was. Where out has no room for 26 bytes to each byte of the chunk, nothing changes and nothing is printed.
+// Rules out: a line that the chunk's end cuts in two; an answer out of order or cut short; a newline kept in the line; a byte of out
+// behind the text that changes.
 pub fn feed(
     s: Session,
     chunk: &[u8],
@@ -304,6 +314,10 @@ pub fn feed(
     ensures { λ r. ⌜ stateAfter r line (lentAfter ring framebuffer screen cursor) out
         ≡ ifRoom s (length (now (chunk .entry))) line out (fedAll (stateBefore s line (lentBefore ring framebuffer screen cursor) out) (now (chunk .entry)))
         (stateBefore s line (lentBefore ring framebuffer screen cursor) out) ⌝ }
+    ensures { λ r. ⌜ Leaves s r line out
+        (ifRoom s (length (now (chunk .entry))) line out (lineFed (lineBefore s line) (now (chunk .entry))) (lineBefore s line))
+        (ifRoom s (length (now (chunk .entry))) line out
+        (fedAll (unprinted s line (lentBefore ring framebuffer screen cursor)) (now (chunk .entry)) .printed) []) ⌝ }
     ensures { λ r. ⌜ (HasRoom s (length (now (chunk .entry))) line out → HasRoom r 0 line out) ⌝ }
 {
     let good = room_for(s, chunk.len(), line.len(), out.len());
@@ -313,8 +327,9 @@ pub fn feed(
     feed_bytes(s, chunk, line, ring, framebuffer, screen, cursor, out)
 }
 
-// The input has ended: a last line without newline is answered.
-// Rules out: a last line dropped; a line made of the nothing behind a last newline.
+// The input has ended: a last line without newline is answered. The text goes behind what out has; every other byte is as it was. Where out
+// has no room for 26 bytes, nothing changes.
+// Rules out: a last line dropped; a line made of the nothing behind a last newline; a byte of out behind the text that changes.
 pub fn finish(
     s: Session,
     line: &[u8],
@@ -327,6 +342,8 @@ pub fn finish(
     ensures { λ r. ⌜ stateAfter r line (lentAfter ring framebuffer screen cursor) out
         ≡ ifRoom s 1 line out (ended (stateBefore s line (lentBefore ring framebuffer screen cursor) out))
         (stateBefore s line (lentBefore ring framebuffer screen cursor) out) ⌝ }
+    ensures { λ r. ⌜ Leaves s r line out (ifRoom s 1 line out (rested (lineBefore s line)) (lineBefore s line))
+        (ifRoom s 1 line out (ended (unprinted s line (lentBefore ring framebuffer screen cursor)) .printed) []) ⌝ }
     ensures { λ r. ⌜ (HasRoom s 1 line out → HasRoom r 0 line out) ⌝ }
 {
     let good = room_for(s, 1, line.len(), out.len());

@@ -14,7 +14,7 @@ start c = c .before .before .before .before .before .before .before .before .bef
 write-out-requires : tie.Need-write-out-requires
 write-out-requires c κs =
     let finished = at-finish c .finish in
-    omega (arith, finished .ensures .1 (start (at-finish c) .pre) .room, finished .kept .1 .1 .1 .1 .1 .1 .0)
+    omega (arith, finished .ensures .1 .1 (start (at-finish c) .pre) .room, finished .kept .1 .1 .1 .1 .1 .1 .0)
 
 pub end-spec : {M : Type 1} → statement M
 end-spec =

@@ -24,7 +24,7 @@ write-out-requires c κs =
     let fed = Fed c in
     let filled = Filled fed in
     let room = chunk-within _ (filled .fill .result) (filled .fill .kept .0) (Start filled .pre) in
-    omega (arith, fed .feed .ensures .1 room .room, fed .feed .kept .1 .1 .1 .1 .1 .1 .1 .0)
+    omega (arith, fed .feed .ensures .1 .1 room .room, fed .feed .kept .1 .1 .1 .1 .1 .1 .1 .0)
 
 same-length : tie.Need-same-length
 same-length c = Filled (Fed (c .before .before .before)) .fill .kept .0
@@ -37,7 +37,7 @@ returns c =
     let room = chunk-within _ (filled .fill .result) (filled .fill .kept .0) (start .pre) in
     rw (c .before .flush .ensures) (
       ap (λ (t : State). flushed t) (fed-chunk (filled .fill .result) _ room _ _ _ (fed .feed .ensures .0)),
-      record { whole = start .pre .whole; held = fed .feed .ensures .1 room .held; room = omega (arith, start .pre .room) },
+      record { whole = start .pre .whole; held = fed .feed .ensures .1 .1 room .held; room = omega (arith, start .pre .room) },
     )
 
 pub turn-spec : {M : Type 1} → statement M

@@ -2,7 +2,8 @@
 -- Assumes nothing.
 use borrow.Author.Needs.{needs}
 use borrow.Author.Tests.{eq-eqb, ne-eqb}
-use Rattle.console_session.specs.Session.{fed}
+use Rattle.console_answers.proofs.Putting.{put-none}
+use Rattle.console_session.specs.Session.{fed, lineByte}
 use Rattle.console_session.proofs.feed_byte.Statement.{statement}
 use Rattle.console_session.proofs.feed_byte.Tie as tie
 
@@ -13,14 +14,17 @@ abbrev at-newline : tie.After-answer-line → tie.Then1
 at-newline c = c .before .before .before .before .before .before .before
 
 returns : tie.Need-returns
-unfolding fed
+unfolding fed lineByte
 returns c =
-    let e = at-answer c .answer-line .ensures in (rw (eq-eqb _ 10 (at-newline (at-answer c) .if1 .taken)) (e .0), (e .1 .0, e .1 .1))
+    let e = at-answer c .answer-line .ensures in
+    let newline = eq-eqb _ 10 (at-newline (at-answer c) .if1 .taken) in (rw newline (e .0), (rw newline (e .1 .0), e .1 .1))
 
 returns-2 : tie.Need-returns-2
-unfolding fed
+unfolding fed lineByte
 returns-2 c =
-    (rw (ne-eqb _ 10 (c .before .before .before .before .before .if1 .left), ← (c .before .before .before .keep .ensures .0)), (search needs, search needs))
+    let keep = c .before .before .before .keep .ensures in
+    let other = ne-eqb _ 10 (c .before .before .before .before .before .if1 .left) in
+    (rw (other, ← (keep .0)), (rw other (record { line = keep .1 .0; out = put-none _ _ }), (search needs, search needs)))
 
 pub feed-byte-spec : {M : Type 1} → statement M
 feed-byte-spec =

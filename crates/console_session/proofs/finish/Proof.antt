@@ -1,18 +1,22 @@
 -- `console_session::finish` meets its contract.
 -- Assumes nothing.
-use mathlib.Core.Path.{sym, _∙_}
+use mathlib.Core.Path.{_≡_, refl, sym, _∙_}
 use Prim.Native.Nat.{_≤_, _<_}
 use native.Mathlib.Omega.{arith}
 use lib.ListN.{length, take, length-take}
 use borrow.Author.Needs.{needs}
 use borrow.Author.Tests.{not-true, not-false, le-leb, lt-leb}
+use Rattle.console_answers.proofs.Putting.{put-none}
 use Rattle.console_session.specs.Session.{ended}
 use Rattle.console_session.proofs.Feeding.{fits-within, within-none}
 use Rattle.console_session.proofs.finish.Statement.{statement}
 use Rattle.console_session.proofs.finish.Tie as tie
 
 returns : tie.Need-returns
-returns c = (rw (← (c .before .room-for .ensures), not-true (c .before .room-for .result) (c .if1 .taken)), λ w. within-none w)
+returns c =
+    let good = c .before .room-for .ensures in
+    let no = not-true (c .before .room-for .result) (c .if1 .taken) in
+    (rw (← good, no), (rw (← good, no) (record { line = refl; out = put-none _ _ }), λ w. within-none w))
 
 abbrev start : tie.After-room-for → tie.Start
 start c = c .before .before .before .before .before .before .before
@@ -27,7 +31,10 @@ returns-2 c =
     let room = c .before .before in
     let a = start (room .before) .args in
     let empty : length (take (a .s .held) (a .line .now)) < 1 = omega (arith, length-take (a .s .held) (a .line .now)) in
-    (rw (← (room .before .room-for .ensures), not-false (room .before .room-for .result) (room .if1 .left), lt-leb 1 _ empty), λ w. within-none w)
+    let good = room .before .room-for .ensures in
+    let so = not-false (room .before .room-for .result) (room .if1 .left) in
+    let none : a .s .held ≡ 0 = omega (arith, c .if2 .taken) in
+    (rw (← good, so, lt-leb 1 _ empty), (rw (← good, so, lt-leb 1 _ empty) (record { line = rw none; out = put-none _ _ }), λ w. within-none w))
 
 abbrev held-some : tie.After-answer-line-arg5 → tie.Else2
 held-some c = c .before .before .before .before .before
@@ -51,7 +58,7 @@ returns-3 c =
     let so = not-false (room .before .room-for .result) (room .if1 .left) in
     let within = fits-within _ _ _ _ (sym good ∙ so) in
     let some : 1 ≤ length (take (a .s .held) (a .line .now)) = omega (arith, past .if2 .left, length-take (a .s .held) (a .line .now)) in
-    (rw (← good, so, le-leb 1 _ some) (answer .0), λ w. answer .1 .0)
+    (rw (← good, so, le-leb 1 _ some) (answer .0), (rw (← good, so, le-leb 1 _ some) (answer .1 .0), λ w. answer .1 .1 .0))
 
 pub finish-spec : {M : Type 1} → statement M
 finish-spec =
