@@ -11,7 +11,8 @@ ghost use Prim.Native.Nat.{_≤_};
 ghost use mathlib.Core.Path.{_≡_};
 ghost use lib.ListN.{length, take};
 ghost use Rattle.device_run.specs.Run.{lentBefore, lentAfter};
-ghost use Rattle.console_session.specs.Session.{stateBefore, stateAfter, fedAll, flushed, Within, HasRoom};
+ghost use Rattle.console_answers.specs.Put.{putAt};
+ghost use Rattle.console_session.specs.Session.{stateBefore, stateAfter, unprinted, fedAll, ended, flushed, Within, HasRoom, Served};
 
 // A session, the bytes that were read for it, and whether there may be more.
 struct Step {
@@ -79,7 +80,9 @@ fn turn(
     }
 }
 
-// Nothing says that the input ends, and a proved loop has to: turns are counted down from a number that no input uses up.
+// Reads and feeds until the input ends. Nothing says that it does, and a proved loop has to: turns are counted down from a number that no
+// input uses up. No contract can say which bytes the reads gave; it says that there are such chunks.
+// Rules out: a device or a memory that no input leads to; a line held that none leaves.
 fn serve(
     s: Session,
     buffer: &mut [u8],
@@ -91,6 +94,8 @@ fn serve(
     out: &mut [u8],
 ) -> Session
     requires { ⌜ Within s (length (now buffer)) (length (now line)) (length (now out)) ⌝ }
+    ensures { λ r. ⌜ Served (stateBefore s line (lentBefore ring framebuffer screen cursor) out)
+        (stateAfter r line (lentAfter ring framebuffer screen cursor) out) ⌝ }
     ensures { λ r. ⌜ HasRoom r (length (now (buffer .entry))) line out ⌝ }
 {
     let mut session = s;
@@ -112,7 +117,8 @@ fn serve(
     session
 }
 
-// A last line without newline.
+// A last line without newline is answered, and its text written out.
+// Rules out: a last line that does nothing; a byte of out behind the text that changes.
 fn end(
     s: Session,
     line: &[u8],
@@ -123,6 +129,10 @@ fn end(
     out: &mut [u8],
 )
     requires { ⌜ Within s 1 (length (now line)) (length (now out)) ⌝ }
+    ensures { λ _. ⌜ lentAfter ring framebuffer screen cursor
+        ≡ ended (stateBefore s line (lentBefore ring framebuffer screen cursor) out) .console .lent ⌝ }
+    ensures { λ _. ⌜ now (out .exit)
+        ≡ putAt (now (out .entry)) (s .printed) (ended (unprinted s line (lentBefore ring framebuffer screen cursor)) .printed) ⌝ }
 {
     let ended = console_session::finish(s, line, ring, framebuffer, screen, cursor, out);
     write_out(out, ended.printed);

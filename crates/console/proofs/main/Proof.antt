@@ -24,7 +24,7 @@ end-requires : tie.Need-end-requires
 end-requires c κs =
     let served = at-serve c .serve in
     let kept = served .kept .1 .1 in
-    within-one (served .ensures) (omega (arith, buffered (ready (at-serve c .before)) .buffer .ensures)) (sym (kept .0)) (sym (kept .1 .1 .1 .1 .1 .0))
+    within-one (served .ensures .1) (omega (arith, buffered (ready (at-serve c .before)) .buffer .ensures)) (sym (kept .0)) (sym (kept .1 .1 .1 .1 .1 .0))
 
 pub main-spec : {M : Type 1} → statement M
 main-spec =
