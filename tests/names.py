@@ -9,9 +9,11 @@ In docs/PROMISES.md, docs/ARCHITECTURE.md, docs/DECISIONS.md and CONTRIBUTING.md
 Other words in backticks mean nothing here. In README.md, CONTRIBUTING.md and docs/*.md each link to a local file must
 lead to one.
 """
+import functools
 import re
 
 from repository import ROOT, Report, crates
+import antt
 
 KIT = {"std", "check", "libc", "io", "os", "bytes"}
 
@@ -37,33 +39,9 @@ def declared_in_source(crate):
     return names
 
 
+@functools.cache
 def declared_in_antt(file):
-    """Signatures, records and data types at the top level, or at the margin of a 'module _' section, which may stand in another."""
-    names = set()
-    margins = [0]  # of the sections that a line stands in; None: the section's first line tells
-    header = False  # within the lines of a section's header
-    for line in file.read_text().splitlines():
-        if not line.strip() or line.lstrip().startswith("--"):
-            continue
-        if header:
-            header = not line.rstrip().endswith("where")
-            continue
-        indent = len(line) - len(line.lstrip())
-        if margins[-1] is None:
-            margins[-1] = indent
-        while indent < margins[-1]:
-            margins.pop()
-        if indent != margins[-1]:
-            continue
-        words = re.sub(r"^(?:(?:pub|abbrev|unfoldable) )+", "", line.strip())
-        if words.startswith("module _"):
-            margins.append(None)
-            header = not line.rstrip().endswith("where")
-            continue
-        declared = re.match(r"(?:record|data) (\S+)", words) or re.match(r"(\S+) :(?: |$)", words)
-        if declared:
-            names.add(declared.group(1))
-    return names
+    return antt.File(str(file.relative_to(ROOT)), file.read_text()).declarations
 
 
 def check_function(where, crate, name):
@@ -83,8 +61,12 @@ def check_declaration(where, crate, file, name):
     found = [f for f in (ROOT / "crates" / crate / part / f"{file}.antt" for part in ("specs", "proofs")) if f.is_file()]
     if not found:
         report.fail(f"{where}: {reference}: neither crates/{crate}/specs nor crates/{crate}/proofs has a file {file}.antt")
-    elif not any(name in declared_in_antt(f) for f in found):
-        report.fail(f"{where}: {reference}: {' and '.join(str(f.relative_to(ROOT)) for f in found)} declare no {name}")
+        return
+    try:
+        if not any(name in declared_in_antt(f) for f in found):
+            report.fail(f"{where}: {reference}: {' and '.join(str(f.relative_to(ROOT)) for f in found)} declare no {name}")
+    except antt.Unreadable as error:
+        report.fail(f"{where}: {reference}: {error}")
 
 
 def check_path(where, path):
