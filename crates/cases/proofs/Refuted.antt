@@ -33,7 +33,7 @@ use Rattle.ring.specs.Waiting.{after, placed}
 use Rattle.run.specs.Run.{machine, knownOf}
 use Rattle.device.specs.declared.Condition.the-variants.{Running}
 use Rattle.device.specs.Device.{conditionOf, sizesGood, modeGood, conditionGood, definedGood, wellFormed}
-use Rattle.register_read.specs.AfterWrite.{readBack, busyAfterWrite}
+use Rattle.register_read.specs.AfterWrites.{readBack, busyAfterWrite}
 use Rattle.register_read.specs.Registers.{bit}
 use Rattle.device_run.specs.Run.{lent, lentGood}
 use Rattle.history.specs.Calls.{World, CallOutcome, History}
@@ -207,7 +207,7 @@ pub full-append : (rest : List ℕ) (x : ℕ) → length rest ≡ 2560
 unfolding appendOf appendTo canAppend movedOn usable boundsUsable offsetUsable
 full-append rest x r = rw r
 
--- ---- register_read/AfterWrite: neither reading is constant
+-- ---- register_read/AfterWrites: neither reading is constant
 
 -- a register stores nothing, or always the same; ID stores any value; SYNC reads back
 pub reads-differ : AllEqual

@@ -17,8 +17,8 @@ use Rattle.register.specs.declared.Register.{Register}
 use Rattle.register.specs.declared.Register.the-variants.{Writes, Reads, Absent}
 use Rattle.register.specs.declared.Writable.{Writable}
 use Rattle.register.specs.declared.Writable.the-variants.{Id, Enable, Width, Height, ConfigDone, Sync, GuestId, CursorId, CursorX, CursorY, CursorOn}
-use Rattle.register.specs.Numbers.{numbers, registerOf}
-use Rattle.register.proofs.ByNumber.{numberOf, numbered, writable-number}
+use Rattle.register.specs.Numbers.{numbers, registerOf, numberOf}
+use Rattle.register.proofs.ByNumber.{numbered, writable-number}
 use Rattle.device.specs.declared.Condition.{Condition}
 use Rattle.device.specs.declared.Condition.the-variants.{Idle, Running, Faulted}
 use Rattle.device.specs.declared.Device.{Device}
@@ -28,7 +28,8 @@ use Rattle.register_write.specs.Answers.{WriteOutcome}
 use Rattle.register_write.specs.Registers.{refused, inRange, idWritten, enableWritten, synced, planeOn, effectOf, ringAsked, acceptedWritten, ringWritten, writableWritten, writtenBy, written}
 use Rattle.register_read.specs.Answers.{Reading}
 use Rattle.register_read.specs.Registers.{writableValue, readBy, readOf}
-use Rattle.register_read.proofs.Readings.{affects, reads-changed}
+use Rattle.register_read.specs.AfterWrites.{affects}
+use Rattle.register_read.proofs.Readings.{reads-changed}
 use Rattle.device_run.specs.Run.{Lent, RunOutcome, lentGood, refusedRun, runBy, runOf}
 use Rattle.adapter.specs.declared.Edges.{Edges}
 use Rattle.adapter.specs.Picture.{Pictured, cursorOver, pictureOf}

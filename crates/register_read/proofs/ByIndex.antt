@@ -13,8 +13,8 @@ use Rattle.geometry.proofs.Tests.{not-both}
 use Rattle.register.specs.declared.Register.the-variants.{Writes}
 use Rattle.register.specs.declared.Writable.{Writable}
 use Rattle.register.specs.declared.Writable.the-variants.{Id, Enable, Width, Height, ConfigDone, Sync, GuestId, CursorId, CursorX, CursorY, CursorOn}
-use Rattle.register.specs.Numbers.{numbers, registerOf}
-use Rattle.register.proofs.ByNumber.{numberOf, numbered, writable-number}
+use Rattle.register.specs.Numbers.{numbers, registerOf, numberOf}
+use Rattle.register.proofs.ByNumber.{numbered, writable-number}
 use Rattle.device.specs.declared.Condition.{Condition}
 use Rattle.device.specs.declared.Condition.the-variants.{Idle, Running, Faulted}
 use Rattle.device.specs.declared.Device.{Device}
@@ -26,7 +26,7 @@ use Rattle.register_write.proofs.Effects.{is-other}
 use Rattle.register_write.proofs.Kept.{Went, outside, effected, other-length, unusable, accepts, went, by-written, written-well-formed, part-kept}
 use Rattle.register_write.proofs.Refusals.{ill-formed-write}
 use Rattle.register_read.specs.Registers.{bit, writableValue, readOnlyValue, readBy, readOf}
-use Rattle.register_read.specs.AfterWrite.{readBack, faultStands, busyAfterWrite}
+use Rattle.register_read.specs.AfterWrites.{readBack, faultStands, busyAfterWrite}
 use Rattle.register_read.proofs.Readings.{reads-back, foreign-id-stays}
 
 -- ---- "Each reads back the value last taken, ID and SYNC as said."

@@ -1,12 +1,17 @@
--- What registers read after a write, for readers: which readings a write can change, and which values are read back. Document 01, "Registers".
+-- What registers read after a write, for readers: which readings a write can change, what a written register reads, and what BUSY reads. Document 01,
+-- "Registers".
 use Prim.Native.Nat.{ℕ}
-use mathlib.Core.Bool.{Bool, true, false, _||_}
+use mathlib.Core.Bool.{Bool, true, false, cond, not, _&&_, _||_}
 use mathlib.Core.List.{List, [], _∷_}
 use lib.Dec.{eqb}
 use Rattle.register.specs.declared.Register.{Register}
 use Rattle.register.specs.declared.Writable.{Writable}
 use Rattle.register.specs.declared.Writable.the-variants.{Id, Enable, Width, Height, ConfigDone, Sync, GuestId, CursorId, CursorX, CursorY, CursorOn}
 use Rattle.register.specs.Numbers.{numberOf}
+use Rattle.device.specs.declared.Condition.{Condition}
+use Rattle.device.specs.declared.Condition.the-variants.{Idle, Running, Faulted}
+use Rattle.device.specs.declared.Device.{Device}
+use Rattle.device.specs.Device.{enabledOf, configuredOf, conditionOf}
 use Rattle.register_write.specs.Registers.{isId}
 
 -- The registers whose reading a write can change: its own, "12 BYTES_PER_LINE 4·width", "16 FB_SIZE 4·width·height", and "22 BUSY", which "SYNC sets" and
@@ -46,3 +51,22 @@ stored CursorId v = true
 stored CursorX v = true
 stored CursorY v = true
 stored CursorOn v = true
+
+-- ---- by index and value
+
+-- "Each reads back the value last taken, ID and SYNC as said." ID: "0x90000000, ..01, ..02 are stored; any other value is taken and changes nothing", so it
+-- reads the old one. "SYNC reads 0."
+unfoldable pub readBack : ℕ → ℕ → ℕ → ℕ
+readBack index v old = cond (eqb index 0) (cond (isId v) v old) (cond (eqb index 21) 0 v)
+
+abbrev pub faultStands : Condition → Bool
+faultStands Idle = false
+faultStands (Running g) = false
+faultStands (Faulted c) = true
+
+-- "SYNC sets BUSY to 1 if the device is configured, enabled and without fault; otherwise nothing. Writing 0 to ENABLE or CONFIG_DONE clears BUSY." No other
+-- write changes it: neither ENABLE 1 nor CONFIG_DONE 1, nor one that is refused.
+unfoldable pub busyAfterWrite : Device → ℕ → ℕ → Bool
+busyAfterWrite d index v =
+    cond (eqb index 21) (cond (configuredOf d && (enabledOf d && not (faultStands (conditionOf d)))) true (d .busy))
+    (cond ((eqb index 1 || eqb index 20) && eqb v 0) false (d .busy))

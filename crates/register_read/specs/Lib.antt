@@ -2,4 +2,3 @@ pub mod Answers
 pub mod Registers
 pub mod AfterWrites
 pub mod Negotiation
-pub mod AfterWrite

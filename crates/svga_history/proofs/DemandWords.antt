@@ -19,7 +19,8 @@ use Rattle.svga.specs.Calls.{svgaMake}
 use Rattle.history.specs.Calls.{Call, make, write, read, run, append, picture, offscreen, fence, passed, lend, History, performAll}
 use Rattle.history.specs.Demand.{isStart, callOf, Shown}
 use Rattle.history.proofs.Laws.{demand-3}
-use Rattle.history.proofs.Starts.{starting, answers, start-reached}
+use Rattle.history.specs.Keeping.{starting, answers}
+use Rattle.history.proofs.Starts.{start-reached}
 use Rattle.svga_history.specs.WordCalls.{Host, worldIn, HoldsDevice, performWords, performWordsAll, asHistory, WordHost, WordCalls}
 use Rattle.svga_history.specs.WordHarm.{Lends, LendsAll, EdgesStay}
 use Rattle.svga_history.proofs.AsAdapter.{held-by, words-hold, as-adapter, still-held}

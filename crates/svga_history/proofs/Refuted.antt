@@ -13,7 +13,7 @@ use Rattle.device_words.specs.declared.Held.the-variants.{Device as Holds, Noth
 use Rattle.device_words.specs.Words.{definedParts, conditionParts, wordsOf, definedFrom, conditionFrom, deviceFrom, spelledIn, heldIn}
 use Rattle.history.specs.Calls.{write, read, fence, append}
 use Rattle.history.specs.Demand.{isStart}
-use Rattle.history.proofs.Starts.{starting}
+use Rattle.history.specs.Keeping.{starting}
 use Rattle.svga_history.specs.WordCalls.{Host, host, worldIn, HoldsDevice, outcome, performWordsAll, WordHost}
 use Rattle.svga_history.specs.WordHarm.{SafeWords}
 use Rattle.svga_history.proofs.Fitting.{one-more, zero-words}
