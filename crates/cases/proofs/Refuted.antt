@@ -21,7 +21,8 @@ use Rattle.execution.specs.declared.End.the-variants.{Drained, Waiting, Fault}
 use Rattle.execution.specs.Straight.{Line, endOf, steps, straight, whole, ending}
 use Rattle.execution.specs.Table.{unless, turnOf}
 use Rattle.execution.specs.Claim.{Op, append, run, spent, standing, ended, Reply, appended, ran, Event, replyNumber, taken, counted, metEnd, met, faulted, first, fed, countAll, standingFault, verdict, says}
-use Rattle.execution.specs.Queue.{fresh, offer, runs, try, act, play}
+use Rattle.execution.specs.Turns.{runs}
+use Rattle.execution.specs.Queue.{fresh, offer, try, act, play}
 use Rattle.execution.proofs.QueueLaws.{play-ops, demand3, demand3-unique}
 use Rattle.command.specs.Commands.{entry, kindOf, commands}
 use Rattle.command.proofs.Laws.{command-laws}

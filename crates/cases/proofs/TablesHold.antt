@@ -5,7 +5,7 @@ use Rattle.ring.specs.Waiting.{placed}
 use Rattle.register.specs.Numbers.{numbers, registerOf}
 use Rattle.cursor.specs.Plane.{shapeGood}
 use Rattle.execution.specs.Table.{unless, turnOf}
-use Rattle.execution.specs.Queue.{runs}
+use Rattle.execution.specs.Turns.{runs}
 use Rattle.command.specs.Commands.{entry, kindOf, commands}
 use Rattle.device.specs.Device.{sizesGood, modeGood, conditionGood, definedGood, wellFormed}
 use Rattle.register_read.specs.Registers.{writableValue, readOnlyValue, readBy, readOf}

@@ -11,7 +11,7 @@ use lib.ListN.{length, take}
 use borrow.Table.Steps.{cases}
 use Rattle.execution.specs.Straight.{Turn, ends, exec, Line, beyond, next}
 use Rattle.execution.specs.Table.{unless, turnOf}
-use Rattle.execution.specs.Queue.{runs}
+use Rattle.execution.specs.Turns.{runs}
 use Rattle.execution.proofs.QueueLaws.{runs-ends, runs-exec}
 use Rattle.ring.specs.declared.Ring.{Ring}
 use Rattle.ring.specs.Acceptance.{nextOf}
