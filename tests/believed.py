@@ -5,7 +5,9 @@ Who takes the prover's word for the proofs still has to read what is claimed:
   the contract of every public function of crates/*/src, and of each function that docs/PROMISES.md names;
   the statement of each theorem that it names, by itself (`crate/File.name`) or with its file (`crates/CRATE/proofs/File.antt`);
   and the definitions that these name, those that they name in turn, and so on: by type and clauses, a theorem by its type alone.
-The walk ends at types of the source and at the kit's library. The rules:
+The walk ends at types of the source and at the kit's library. A file proofs/Refuted.antt has examples of what a definition refuses, on
+which nothing rests: a theorem of it that the promises name is no beginning of the walk, and what it defines for itself is not counted.
+The rules:
   a file of crates/*/specs has definitions that must be believed, or others, and not both;
   what must be believed stands in specs/, and in no file that says 'Nothing here has to be believed';
   docs/ARCHITECTURE.md lists the files of either kind, and those that it bids to read first are among the first kind.
@@ -23,6 +25,7 @@ from antt import Unreadable
 PROMISES, MAP = "docs/PROMISES.md", "docs/ARCHITECTURE.md"
 FIRST, BELIEVED, OTHERS = "## Read these first", "## What a reader must believe", "## What need not be believed"
 DENIAL = "Nothing here has to be believed"
+EXAMPLES = "Refuted"  # the name of the files of examples
 PRELUDE = set("Unit tt ⊥ absurd ¬ Dec yes no now ⌜ ⌝ ∗".split())  # what no use line has to bring
 
 
@@ -115,7 +118,7 @@ class Tree:
     # ---- the walk
 
     def promised(self):
-        """What the promises name: functions, and declarations of specs/ and proofs/."""
+        """What the promises name: functions, and declarations of specs/ and proofs/, examples aside."""
         functions, declarations = set(), []
         for word in re.findall(r"`([^`\s]+)`", self.texts[PROMISES]):
             function = re.fullmatch(r"(\w+)::(\w+)", word)
@@ -127,7 +130,7 @@ class Tree:
                 declarations += [file.declarations[one.group(3)] for file in files if file and one.group(3) in file.declarations]
             elif word in self.files and self.files[word].part == "proofs":
                 declarations += [one for one in self.files[word].declarations.values() if "pub" in one.marks]
-        return functions, declarations
+        return functions, [one for one in declarations if not one.file.label.endswith(f"/{EXAMPLES}")]
 
     def walk(self):
         functions, declarations = self.promised()
@@ -365,6 +368,16 @@ module _ (n : ℕ) where
   pub kept : Promise shorthand
   kept = lemma (idle n)
 """,
+    # examples: the walk does not begin here
+    "crates/high/proofs/Refuted.antt": KIT + """
+use Rattle.low.specs.Base.{idle}
+
+abbrev wrong : ℕ
+wrong = 5
+
+pub not-so : idle wrong ≡ wrong → ⊥
+not-so = lemma
+""",
     "crates/high/src/lib.rt": """
 ghost use mathlib.Core.Path.{_≡_};
 ghost use Rattle.low.specs.Base.{idle};
@@ -377,7 +390,7 @@ pub fn outer(after: u32) -> [u32; 2]
     ensures { λ r. ⌜ r ≡ walked after ⌝ }
 { inner(after) }
 """,
-    PROMISES: "`high/Laws.kept`",
+    PROMISES: "`high/Laws.kept`, `crates/high/proofs/Refuted.antt`: `high/Refuted.not-so`",
     MAP: f"{FIRST}\n`crates/high/specs/Claim.antt`\n{BELIEVED}\n`crates/low/specs/Base.antt`, `crates/low/specs/Again.antt`, `crates/high/specs`\n"
          f"{OTHERS}\n`crates/low/specs/Bound.antt`\n",
 }
@@ -415,9 +428,15 @@ def self_test(fail):
     check(tree, said.append)
     expect("failures", said, FAILURES)
     expect("a public function more", believed(with_edit("crates/high/src/lib.rt", "fn inner", "pub fn inner")), sorted([*KNOWN, "low/Base.idle"]))
-    expect("a promised function", believed(with_edit(PROMISES, "`high", "`high::inner` `high")), sorted([*KNOWN, "low/Base.idle"]))
+    expect("a promised function", believed(with_edit(PROMISES, "`high/Laws", "`high::inner` `high/Laws")), sorted([*KNOWN, "low/Base.idle"]))
     expect("a promise less", believed(with_edit(PROMISES, "kept", "lost")), [one for one in KNOWN if one.split(".")[1] not in ("Promise", "shorthand", "size")])
     expect("a file promised whole", believed(with_edit(PROMISES, "high/Laws.kept", "crates/high/proofs/Laws.antt")), KNOWN)
+    expect("an example as a theorem", believed(Tree({
+        **{path.replace("Refuted", "Refuses"): text for path, text in EXAMPLE.items()}, PROMISES: "`high/Laws.kept` `high/Refuses.not-so`"})),
+        sorted([*KNOWN, "low/Base.idle", "high/Refuses.wrong"]))
+    example = "Rattle.high.proofs.Refuted.wrong"
+    expect("an example in a statement", believed(with_edit("crates/high/proofs/Laws.antt", "Promise shorthand", f"Promise {example}")),
+           sorted([*(one for one in KNOWN if one != "high/Laws.shorthand"), "high/Refuted.wrong"]))
     expect("a list too short", failures(with_edit(MAP, "`crates/low/specs/Base.antt`, ", "")), [f"{MAP}: '{BELIEVED}' lacks crates/low/specs/Base.antt"])
     expect("a list too long", failures(with_edit(MAP, "`crates/high/specs`", "`crates/high/specs`, `crates/low/specs/Bound.antt`")),
            [f"{MAP}: '{BELIEVED}' has crates/low/specs/Bound.antt, which holds nothing that must be believed"])
