@@ -36,9 +36,9 @@ use Rattle.device.specs.declared.Condition.the-variants.{Running}
 use Rattle.device.specs.Device.{conditionOf, sizesGood, modeGood, conditionGood, definedGood, wellFormed}
 use Rattle.register_read.specs.AfterWrites.{readBack, busyAfterWrite}
 use Rattle.register_read.specs.Registers.{bit}
-use Rattle.device_run.specs.Run.{lent, lentGood}
+use Rattle.device_run.specs.Run.{lent, lentGood, sceneFor}
 use Rattle.history.specs.Calls.{World, CallOutcome, History}
-use Rattle.history.specs.Demand.{ringAtStart, isStart, sceneOf, worldTurn, worldWords, worldMachine, wordsOn, Demand, numbersOf, Shown}
+use Rattle.history.specs.Demand.{ringAtStart, isStart, worldTurn, worldWords, worldMachine, wordsOn, Demand, numbersOf, Shown}
 use Rattle.history.proofs.Starts.{start-says}
 use Rattle.cases.specs.Cases.{AllEqual, _is_, smallest}
 use Rattle.cases.specs.Tables.{freshDevice, setDevice}
@@ -153,7 +153,7 @@ pub one-answer : (w₀ : World) (os : List Op) (h : History) → Shown ring w₀
 one-answer w₀ os h x =
     let turn = worldTurn w₀ ring in
     let m = worldMachine w₀ in
-    let right = demand3 (command-laws knownOf (done (sceneOf w₀)) smallest (omega arith)) m (omega arith) os in
+    let right = demand3 (command-laws knownOf (done (sceneFor (w₀ .device) (w₀ .lent))) smallest (omega arith)) m (omega arith) os in
     let asked = x .asked ∙ sym (play-ops smallest turn os (fresh m)) in
     x .answered ∙ ap (map numbersOf) (demand3-unique smallest turn m (x .demand .claim) right asked .0)
 

@@ -6,8 +6,7 @@ use Prim.Native.Nat.{ℕ, _+_, _≤_, _<_}
 use native.Mathlib.Omega.{arith}
 use lib.ListN.{take, getD}
 use lib.Seq.{getD-take}
-use Rattle.execution.specs.Table.{headOf, sizeOf, allOf, turnOf}
-use Rattle.execution.proofs.Laws.{Laws}
+use Rattle.execution.specs.Table.{headOf, sizeOf, allOf, turnOf, Laws}
 use Rattle.execution.proofs.Tables.{laws-of}
 use Rattle.command.specs.declared.Action.{Action}
 use Rattle.command.specs.declared.Kind.{Kind}

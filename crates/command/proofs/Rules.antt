@@ -15,7 +15,7 @@ use Rattle.execution.proofs.Tables.{way, turn-by}
 use Rattle.execution.proofs.Tables as W
 use Rattle.command.specs.declared.Action.{Action}
 use Rattle.command.specs.Commands.{Known, entry, sizeBy, kindIn, commands}
-use Rattle.command.specs.Findings.{findsIn}
+use Rattle.command.specs.Findings.{findsIn, onMachine}
 use Rattle.command.proofs.Laws.{by-head, by-size, by-good, by-effect}
 
 -- where there are words, a turn goes by the first of them
@@ -89,12 +89,6 @@ module _ {S : Type 0} (knownOf : S → Known) (does : Action → List ℕ → S 
   by-rule h t r = turn-some cap T s w h ∙ turn-by cap T s (getD w 0 0) w t (to-way t r)
 
 -- ---- a turn by what it finds
-
--- the turn on a machine where that is found
-abbrev pub onMachine : {S : Type 0} → (Action → List ℕ → S → S) → S → List ℕ → Turn (Option Action) → Turn S
-onMachine does s w (ends e) = ends e
-onMachine does s w (exec n none) = ends Drained
-onMachine does s w (exec n (some a)) = exec n (does a (take n w) s)
 
 module _ {S : Type 0} (knownOf : S → Known) (does : Action → List ℕ → S → S) (cap : ℕ) (s : S) where
   carried-on : (w : List ℕ) (t : Turn (Option Action)) → Ruled (λ m. knownOf s) (λ a v m. some a) cap none w t → Ruled knownOf does cap s w (onMachine does s w t)

@@ -4,7 +4,7 @@ use mathlib.Core.Option.{Option, none, some}
 use mathlib.Core.Bool.{cond}
 use mathlib.Core.List.{List}
 use lib.Dec.{eqb}
-use lib.ListN.{length, getD}
+use lib.ListN.{length, getD, take}
 use Rattle.geometry.specs.Pixels.{tabulate}
 use Rattle.execution.specs.declared.End.the-variants.{Drained, Waiting, Fault}
 use Rattle.execution.specs.Straight.{Turn, ends, exec}
@@ -27,6 +27,12 @@ findings known = commands (λ s. known) (λ a w s. some a)
 -- What a turn finds on these words, in a ring that carries cap words.
 abbrev pub findsIn : Known → ℕ → List ℕ → Turn (Option Action)
 findsIn known cap w = turnOf cap (findings known) none w
+
+-- The turn on a machine s where that is found on the words w.
+abbrev pub onMachine : {S : Type 0} → (Action → List ℕ → S → S) → S → List ℕ → Turn (Option Action) → Turn S
+onMachine does s w (ends e) = ends e
+onMachine does s w (exec n none) = ends Drained
+onMachine does s w (exec n (some a)) = exec n (does a (take n w) s)
 
 -- What the code answers, as a turn.
 abbrev pub asTurn : Finding → Turn (Option Action)

@@ -11,8 +11,7 @@ use Rattle.device.specs.declared.Device.{Device}
 use Rattle.console_session.specs.declared.Session.{Session}
 use Rattle.console_session.specs.declared.Start.{Start}
 use Rattle.console_session.specs.declared.Start.the-variants.{Ready}
-use Rattle.console_session.specs.Parts.{readyWith}
-use Rattle.console_session.specs.Session.{State, fedAll, flushed, served, fits, Within, Served}
+use Rattle.console_session.specs.Session.{State, fedAll, flushed, served, fits, Within, Served, readyWith}
 use Rattle.console_session.proofs.Feeding.{within-fits}
 use Rattle.console_session.proofs.Meeting.{served-one}
 

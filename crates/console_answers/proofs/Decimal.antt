@@ -11,7 +11,8 @@ use lib.ListN.{length, length-append}
 use borrow.Author.Tests.{lt-ltb, le-ltb}
 use Rattle.console_answers.specs.declared.ConsoleAnswer.{ConsoleAnswer}
 use Rattle.console_answers.specs.declared.ConsoleAnswer.the-variants.{Written, Value, Ran, Shown, Full, Nothing, Bad}
-use Rattle.console_answers.specs.Text.{decimalIn, decimalOf, numbersOf, lineOf, textOf}
+use Rattle.console_answers.specs.Text.{decimalIn, decimalOf, lineOf, textOf}
+use Rattle.console_answers.specs.Parts.{numbersOf}
 
 -- More places than a number has digits change nothing.
 more-places : (k n : ℕ) → n < 10 ^ suc k → decimalIn (suc (suc k)) n ≡ decimalIn (suc k) n

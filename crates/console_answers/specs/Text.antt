@@ -29,10 +29,6 @@ wordFull = 102 ∷ 117 ∷ 108 ∷ 108 ∷ []
 abbrev pub wordBad : List ℕ
 wordBad = 98 ∷ 97 ∷ 100 ∷ []
 
--- What stands behind the word of a line with two numbers.
-abbrev pub numbersOf : ℕ → ℕ → List ℕ
-numbersOf first second = 9 ∷ (decimalOf first ++ (9 ∷ (decimalOf second ++ (10 ∷ []))))
-
 -- "`w index value` prints w, index, answer. `r index` prints r, index, value. .. `run budget` prints run, answer, count.
 -- `s place` prints s, place, screen pixel."
 unfoldable pub textOf : ConsoleAnswer → List ℕ

@@ -2,8 +2,9 @@
 ghost use Prim.Native.Nat.{_+_, _≤_, _<_};
 ghost use mathlib.Core.List.{[], _∷_, _++_};
 ghost use lib.ListN.{length};
-ghost use Rattle.console_answers.specs.Text.{decimalOf, numbersOf, textOf, wordBad, wordFull};
+ghost use Rattle.console_answers.specs.Text.{decimalOf, textOf, wordBad, wordFull};
 ghost use Rattle.console_answers.specs.Put.{Put, shown};
+ghost use Rattle.console_answers.specs.Parts.{numbersOf};
 ghost use Rattle.console_lines.specs.Lines.{wordRun};
 
 // What a request is answered with: a register and the answer or its value, a run's answer and count, a place of the screen and its pixel.

@@ -1,4 +1,4 @@
--- What the inner functions answer: a number, and the place of a line's first tab.
+-- What the inner functions answer: a number, and the place of a line's first tab. Nothing here has to be believed.
 use Prim.Native.Nat.{ℕ, _+_, _-_, _≤_, _<_}
 use mathlib.Core.Path.{_≡_}
 use mathlib.Core.List.{List, [], _∷_}

@@ -16,6 +16,7 @@ use Rattle.console_lines.specs.declared.Request.{Request}
 use Rattle.console_lines.specs.declared.Request.the-variants.{Write, Read, Append, Pixel, Run, Screen, Bad}
 use Rattle.console_answers.specs.declared.ConsoleAnswer.{ConsoleAnswer}
 use Rattle.console_answers.specs.declared.ConsoleAnswer.the-variants.{Written, Value, Ran, Shown, Full, Nothing, Bad as SaysBad}
+use Rattle.console_session.specs.declared.Performed.{Performed as Done}
 
 -- The device and what is lent to it.
 pub record Console : Type 0 where
@@ -80,3 +81,7 @@ performed c (Pixel place pixel) = record {
 performed c (Run budget) = afterRun (runOf (c .device) (c .lent) budget)
 performed c (Screen place) = record { console = c; answer = Shown place (getD (c .lent .screen) place 0) }
 performed c Bad = record { console = c; answer = SaysBad }
+
+-- The same from what the code gives and leaves.
+abbrev pub performedOf : Done → Lent → Performed
+performedOf r l = record { console = consoleOf (r .device) l; answer = r .answer }

@@ -1,4 +1,4 @@
--- What the inner functions answer.
+-- What the inner functions answer. Nothing here has to be believed.
 use Prim.Native.Nat.{ℕ}
 use mathlib.Core.Path.{_≡_}
 use mathlib.Core.Bool.{cond}
@@ -7,17 +7,10 @@ use lib.Dec.{eqb}
 use Rattle.ring.specs.Append.{Appended}
 use Rattle.device.specs.declared.Device.{Device}
 use Rattle.register_write.specs.Answers.{WriteOutcome}
-use Rattle.device_run.specs.Run.{Lent}
 use Rattle.console_answers.specs.declared.ConsoleAnswer.{ConsoleAnswer}
 use Rattle.console_answers.specs.declared.ConsoleAnswer.the-variants.{Written, Full, Nothing}
 use Rattle.console_session.specs.declared.Performed.{Performed as Done}
 use Rattle.console_session.specs.declared.Session.{Session}
-use Rattle.console_session.specs.declared.Start.{Start}
-use Rattle.console_session.specs.declared.Start.the-variants.{Ready}
-use Rattle.console_session.specs.Console.{Performed, consoleOf}
-
-abbrev pub performedOf : Done → Lent → Performed
-performedOf r l = record { console = consoleOf (r .device) l; answer = r .answer }
 
 -- The device stays.
 abbrev pub keepingOf : Device → ConsoleAnswer → Done
@@ -31,7 +24,3 @@ writtenOf index o = record { device = o .device; answer = Written index (o .answ
 pub record appendAnswer (answer : ConsoleAnswer) (ring : List ℕ) (a : Appended) : Type 0 where
   pub says : answer ≡ cond (eqb (a .answer) 0) Nothing Full
   pub leaves : ring ≡ a .ring
-
--- A session that begins.
-abbrev pub readyWith : Device → Start
-readyWith d = Ready (record { device = d; held = 0; printed = 0 })

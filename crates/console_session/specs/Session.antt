@@ -13,6 +13,8 @@ use Rattle.device.specs.declared.Device.{Device}
 use Rattle.device_run.specs.Run.{Lent, Slice}
 use Rattle.console_session.specs.declared.Session.{Session}
 use Rattle.console_session.specs.Console.{Console, Performed, consoleOf, performed, start}
+use Rattle.console_session.specs.declared.Start.the-variants.{Ready}
+use Rattle.console_session.specs.declared.Start.{Start}
 
 -- The console, the line so far, and the text printed.
 pub record State : Type 0 where
@@ -145,3 +147,7 @@ Leaves s r line out = Buffers s r (now (line .exit)) (now (out .entry)) (now (ou
 pub record Served (s t : State) : Type 0 where
   pub chunks : List (List ℕ)
   pub state : t ≡ served s chunks
+
+-- A session that begins.
+abbrev pub readyWith : Device → Start
+readyWith d = Ready (record { device = d; held = 0; printed = 0 })

@@ -1,6 +1,5 @@
 -- A run of a device: document 01, "One command out of the ring" and "Answer numbers".
 use Prim.Native.Nat.{ℕ, _/_}
-use mathlib.Core.Path.{_≡_}
 use mathlib.Core.Bool.{Bool, false, cond, _&&_}
 use mathlib.Core.List.{List}
 use lib.Dec.{eqb}
@@ -16,8 +15,7 @@ use Rattle.ring.specs.declared.Ring.{Ring}
 use Rattle.ring.specs.Acceptance.{nextOf}
 use Rattle.ring.specs.Waiting.{waiting, carried}
 use Rattle.effect.specs.Effects.{Scene, scene, Machine}
-use Rattle.run.specs.declared.RingRun.{RingRun}
-use Rattle.run.specs.Run.{RingOutcome, ringOutcome, machine, table, runIn}
+use Rattle.run.specs.Run.{RingOutcome, machine, table, runIn}
 use Rattle.device.specs.declared.Condition.{Condition}
 use Rattle.device.specs.declared.Condition.the-variants.{Idle, Running, Faulted}
 use Rattle.device.specs.declared.Device.{Device}
@@ -132,11 +130,6 @@ leftOf l o = lent (o .ring) (l .framebuffer) (o .machine .screen) (o .machine .c
 
 abbrev pub ran : Device → Lent → RingOutcome → RunOutcome
 ran d l o = record { answer = answerNumber (o .answer); count = o .count; device = settled d o; lent = leftOf l o }
-
--- A run's answer and the device then, from what `run::run` gives, whatever memories it left.
-abbrev pub Settles : Device → RingRun → Ran → Type 0
-Settles d result r =
-    (l : Lent) (ring screen cursor : List ℕ) → ranOf r (lent ring (l .framebuffer) screen cursor) ≡ ran d l (ringOutcome result ring screen cursor)
 
 module _ (d : Device) (l : Lent) where
   -- "Answers 20 to 34 change nothing; a run's count is then 0"

@@ -12,7 +12,8 @@ ghost use Rattle.run.specs.Run.{answerOf};
 ghost use Rattle.device.specs.declared.Condition.the-variants.{Running};
 ghost use mathlib.Core.Path.{_≡_};
 ghost use Rattle.device_run.specs.Run.{runNumber, lentBefore, lentAfter, ranOf, lentGood, ready};
-ghost use Rattle.device_run.specs.Run.{conditionAfter, busyAfter, Settles, runBy, runOf};
+ghost use Rattle.device_run.specs.Run.{conditionAfter, busyAfter, runBy, runOf};
+ghost use Rattle.device_run.specs.Settling.{Settles};
 
 pub enum RunAnswer {
     Spent,

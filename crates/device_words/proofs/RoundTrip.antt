@@ -18,7 +18,7 @@ use Rattle.device.specs.Device.{wellFormed}
 use Rattle.register_read.specs.Registers.{bit}
 use Rattle.device_words.specs.declared.Held.{Held}
 use Rattle.device_words.specs.declared.Held.the-variants.{Device as Holds, Nothing}
-use Rattle.device_words.specs.Words.{definedParts, conditionParts, wordsOf, definedFrom, conditionFrom, deviceFrom, same, spelledIn, heldIn}
+use Rattle.device_words.specs.Words.{definedParts, conditionParts, wordsOf, definedFrom, conditionFrom, deviceFrom, same, spelledIn, heldIn, HeldBy}
 
 bit-back : (b : Bool) → eqb (bit b) 1 ≡ b
 bit-back true = refl
@@ -63,12 +63,6 @@ words-count d = refl
 pub read-back : (d : Device) → wellFormed d ≡ true → heldIn (wordsOf d) ≡ Holds d
 unfolding heldIn spelledIn
 read-back d m = rw (eq-eqb _ _ (words-count d), device-back d, same-itself (wordsOf d), m)
-
--- Lent words that hold a device are its own 64 words, and the device is well-formed: nothing in them is left unread.
-pub record HeldBy (w : List ℕ) (d : Device) : Type 0 where
-  pub count : length w ≡ 64
-  pub is-well-formed : wellFormed d ≡ true
-  pub its-words : wordsOf d ≡ w
 
 none-held : (d : Device) {P : Type 0} → _≡_ {A = Held} Nothing (Holds d) → P
 none-held d e = absurd (true≢false cc)

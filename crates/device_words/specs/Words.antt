@@ -2,6 +2,7 @@
 use Prim.Native.Nat.{ℕ}
 use mathlib.Core.Bool.{Bool, true, false, cond, _&&_}
 use mathlib.Core.List.{List, [], _∷_}
+use mathlib.Core.Path.{_≡_}
 use lib.Dec.{eqb}
 use lib.ListN.{length, getD, replicate}
 use Rattle.ring.specs.declared.Ring.{Ring}
@@ -123,3 +124,9 @@ heldIn w = onlyWellFormed (spelledIn w)
 -- A device written into 64 lent words; any other length is left as it is.
 unfoldable pub putIn : List ℕ → Device → List ℕ
 putIn w d = cond (eqb (length w) 64) (wordsOf d) w
+
+-- Lent words that hold a device are its own 64 words, and the device is well-formed: nothing in them is left unread.
+pub record HeldBy (w : List ℕ) (d : Device) : Type 0 where
+  pub count : length w ≡ 64
+  pub is-well-formed : wellFormed d ≡ true
+  pub its-words : wordsOf d ≡ w

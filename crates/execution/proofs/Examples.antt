@@ -12,12 +12,12 @@ use borrow.Table.Steps.{cases}
 use Rattle.execution.specs.declared.Cause.the-variants.{TooLong}
 use Rattle.execution.specs.declared.End.the-variants.{Fault}
 use Rattle.execution.specs.Straight.{Turn, Line, endOf, steps, straight, whole, ending}
-use Rattle.execution.specs.Table.{Table, unless, turnOf}
+use Rattle.execution.specs.Table.{Table, unless, turnOf, TableLaws}
 use Rattle.execution.specs.Claim.{Op, append, run, ended, appended, ran, Event, replyNumber, counted, taken, metEnd, met, faulted, first, fed, countAll, standingFault}
 use Rattle.execution.specs.Claim.{verdict, lineAfter, says, Demand3}
 use Rattle.execution.specs.Turns.{runs}
 use Rattle.execution.specs.Queue.{Played, fresh, offer, try, act, play}
-use Rattle.execution.proofs.Tables.{TableLaws, laws-of}
+use Rattle.execution.proofs.Tables.{laws-of}
 use Rattle.execution.proofs.QueueLaws.{demand3}
 
 -- FENCE, 30, has two words; ESCAPE, 33, a head of three and then ceil(size/4). The machine is the last fence.

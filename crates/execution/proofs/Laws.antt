@@ -1,33 +1,16 @@
--- What a command set owes for the order of work not to show, and what follows of straight execution.
+-- What follows of straight execution from the laws of a command set.
 -- Assumes nothing.
 use mathlib.Core.Path.{_≡_, refl, sym, ap, _∙_}
-use mathlib.Core.List.{List, [], _∷_, _++_}
-use Prim.Native.Nat.{ℕ, zero, suc, _+_, _≤_, _<_, min}
+use mathlib.Core.List.{List, [], _∷_}
+use Prim.Native.Nat.{ℕ, zero, suc, _+_, _≤_, min}
 use native.Mathlib.Omega.{arith}
 use native.Mathlib.Nat.{zero-add, suc-add, zero-min, min-zero, suc-min-suc}
 use lib.ListN.{length, drop, length-drop}
 use lib.Seq.{drop-append-le}
-use Rattle.execution.specs.declared.Cause.{Cause}
-use Rattle.execution.specs.declared.Cause.the-variants.{BadNext}
 use Rattle.execution.specs.declared.End.{End}
-use Rattle.execution.specs.declared.End.the-variants.{Drained, Waiting, Fault}
+use Rattle.execution.specs.declared.End.the-variants.{Drained}
 use Rattle.execution.specs.Straight.{Turn, ends, exec, Line, beyond, more, endOf, next, steps, straight, whole, ending}
-
--- What a command set owes, of a ring that carries cap words.
-pub record Laws {S : Type 0} (cap : ℕ) (turn : S → List ℕ → Turn S) : Type 0 where
-  -- it is drained where there are no words, and nowhere else
-  pub empty : (s : S) → turn s [] ≡ ends Drained
-  pub some-word : (s : S) (x : ℕ) (w : List ℕ) → turn s (x ∷ w) ≡ ends Drained → ⊥
-  -- a command has a word, and all its words are there
-  pub takes-one : (s s′ : S) (w : List ℕ) (n : ℕ) → turn s w ≡ exec n s′ → 1 ≤ n
-  pub takes-whole : (s s′ : S) (w : List ℕ) (n : ℕ) → turn s w ≡ exec n s′ → n ≤ length w
-  -- words appended change neither a command that executes nor a fault: this is why the order of work does not show
-  pub exec-stays : (s s′ : S) (w v : List ℕ) (n : ℕ) → turn s w ≡ exec n s′ → turn s (w ++ v) ≡ exec n s′
-  pub fault-stays : (s : S) (w v : List ℕ) (c : Cause) → turn s w ≡ ends (Fault c) → turn s (w ++ v) ≡ ends (Fault c)
-  -- no turn of straight execution gives 13
-  pub not-13 : (s : S) (w : List ℕ) → turn s w ≡ ends (Fault BadNext) → ⊥
-  -- it waits only where an append is taken
-  pub wait-has-room : (s : S) (w : List ℕ) → turn s w ≡ ends Waiting → length w < cap
+use Rattle.execution.specs.Table.{Laws}
 
 module _ {S : Type 0} (turn : S → List ℕ → Turn S) where
   pub steps-ends : (k : ℕ) (a : Line S) (e : End) → next turn a ≡ ends e → steps turn k a ≡ 0

@@ -3,7 +3,7 @@
 use mathlib.Core.Path.{_≡_, refl, sym, ap, _∙_}
 use mathlib.Core.Bool.{Bool, true, false, not, true≢false}
 use mathlib.Core.Option.{Option, none, some}
-use mathlib.Core.List.{List, [], _∷_, _++_, append-assoc, append-nil, map}
+use mathlib.Core.List.{List, [], _∷_, _++_, append-assoc, append-nil}
 use Prim.Native.Nat.{ℕ, zero, suc, _+_, _≤_, min}
 use native.Mathlib.Omega.{arith}
 use native.Mathlib.Nat.{zero-min, min-zero, suc-min-suc, add-zero}
@@ -15,12 +15,13 @@ use Rattle.execution.specs.declared.Cause.the-variants.{NotOffered, BadO
 use Rattle.execution.specs.declared.End.{End}
 use Rattle.execution.specs.declared.End.the-variants.{Drained, Waiting, Fault}
 use Rattle.execution.specs.Straight.{causeNumber, Turn, ends, exec, Line, beyond, more, next, steps, straight, whole, ending}
-use Rattle.execution.specs.Claim.{Op, append, run, Answer, spent, standing, ended, appended, Event, taken, counted, metEnd, met, faulted, first, fed, countAll, standingFault}
+use Rattle.execution.specs.Claim.{Op, append, run, Answer, spent, standing, ended, appended, Event, taken, counted, metEnd, met, faulted, first, fed, countAll, standingFault, ops-of}
 use Rattle.execution.specs.Claim.{verdict, Moves, MovesOn, start, lineAfter, says, Demand3}
 use Rattle.execution.specs.Turns.{LineRun, oneMore, runs}
 use Rattle.execution.specs.Queue.{Queue, Acted, fresh, offer, try, act, play}
-use Rattle.execution.proofs.Laws.{Laws, Goes, here, on, goes-steps, goes-straight, goes-on, goes-more, goes-shorter}
+use Rattle.execution.proofs.Laws.{Goes, here, on, goes-steps, goes-straight, goes-on, goes-more, goes-shorter}
 use Rattle.execution.proofs.Laws.{whole-exec, whole-ends, ending-exec, ending-ends}
+use Rattle.execution.specs.Table.{Laws}
 
 metEnd-fault : (e : End) (c : Cause) → metEnd e ≡ some c → e ≡ Fault c
 unfolding metEnd
@@ -67,9 +68,6 @@ module _ {S : Type 0} (turn : S → List ℕ → Turn S) where
         }
 
 -- the operations of a list of events
-
-abbrev pub ops-of : List Event → List Op
-ops-of es = map (λ (e : Event). e .op) es
 
 pub play-ops : {S : Type 0} (cap : ℕ) (turn : S → List ℕ → Turn S) (os : List Op) (q : Queue S) → ops-of ((play cap turn os q) .events) ≡ os
 unfolding play

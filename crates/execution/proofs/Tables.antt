@@ -13,13 +13,7 @@ use Rattle.execution.specs.declared.Cause.{Cause}
 use Rattle.execution.specs.declared.Cause.the-variants.{NotOffered, BadOperand, TooLong, BadNext}
 use Rattle.execution.specs.declared.End.the-variants.{Drained, Waiting, Fault}
 use Rattle.execution.specs.Straight.{Turn, ends, exec}
-use Rattle.execution.specs.Table.{Table, unless, headOf, sizeOf, allOf, turnAt, turnOf}
-use Rattle.execution.proofs.Laws.{Laws}
-
--- What a table owes: the ring carries the head of each command, and a command has a word.
-pub record TableLaws {S : Type 0} (cap : ℕ) (T : Table S) : Type 0 where
-  pub head-fits : (x : ℕ) → T .offered x ≡ true → T .head x ≤ cap
-  pub size-some : (h : List ℕ) → 1 ≤ T .size h
+use Rattle.execution.specs.Table.{Table, unless, headOf, sizeOf, allOf, turnAt, turnOf, Laws, TableLaws}
 
 module _ {S : Type 0} where
   -- what holds of both ways of a test holds of the turn

@@ -3,7 +3,7 @@
 use mathlib.Core.Path.{_≡_}
 use mathlib.Core.Bool.{Bool, true, false, not}
 use mathlib.Core.Option.{Option, none, some}
-use mathlib.Core.List.{List, [], _∷_, _++_}
+use mathlib.Core.List.{List, [], _∷_, _++_, map}
 use Prim.Native.Nat.{ℕ, _+_, _≤_, min}
 use lib.ListN.{length}
 use lib.Dec.{eqb}
@@ -76,6 +76,10 @@ first none d = d
 first (some c) d = some c
 
 -- Of a list of operations with their answers.
+
+-- The operations alone.
+abbrev pub ops-of : List Event → List Op
+ops-of es = map (λ (e : Event). e .op) es
 
 -- "Straight execution is fed the words that the list's appends took, in order."
 unfoldable pub fed : List Event → List ℕ

@@ -1,5 +1,6 @@
 -- The ring as a queue: appends and runs of it, each on what the last one left.
--- It need not be believed: that it meets the claim is a theorem for any turn (`QueueLaws.demand3`), and what is claimed of the device does not name it.
+-- That it meets the claim is a theorem for any turn (`QueueLaws.demand3`). Who reads that theorem has to believe it; what is claimed of the device does not
+-- name it.
 use mathlib.Core.Bool.{Bool, true, false}
 use mathlib.Core.Option.{Option, none, some}
 use mathlib.Core.List.{List, [], _∷_}

@@ -11,12 +11,9 @@ use borrow.Author.Tests.{eqb-true, eqb-false, ne-eqb, ltb-true, lt-ltb}
 use borrow.Table.Steps.{cases}
 use Rattle.geometry.specs.declared.Rect.{Rect}
 use Rattle.geometry.specs.declared.Cut.the-variants.{Rectangle, Nothing}
-use Rattle.geometry.specs.Rectangle.{spanBelow, cutOf, cutTo, cutCopy}
-use Rattle.geometry.specs.Pixels.{within, inRect, inArea}
+use Rattle.geometry.specs.Rectangle.{spanBelow, cutOf, cutTo, cutCopy, rect}
+use Rattle.geometry.specs.Pixels.{within, inRect, inArea, Has, Remains}
 use Rattle.geometry.proofs.Tests.{both, and-yes, same-bool, within-in, within-yes}
-
-abbrev pub rect : ℕ → ℕ → ℕ → ℕ → Rect
-rect x y w h = record { x = x; y = y; w = w; h = h }
 
 -- ---- the two answers of a cut, with what each says of the numbers
 
@@ -43,13 +40,6 @@ cut-some : (x y w h : ℕ) → 0 < w → 0 < h → cutOf x y w h ≡ Rectangle (
 cut-some x y w h p q = rw (ne-eqb w 0 (λ e. omega arith), ne-eqb h 0 (λ e. omega arith))
 
 -- ---- pixels
-
--- (px, py) is a pixel of w by h pixels at (x, y)
-pub record Has (x y w h px py : ℕ) : Type 0 where
-  pub left : x ≤ px
-  pub right : px < x + w
-  pub top : y ≤ py
-  pub bottom : py < y + h
 
 pub in-rect : (width x y w h k : ℕ) → inRect width x y w h k ≡ true → Has x y w h (k % width) (k / width)
 unfolding inRect
@@ -87,12 +77,6 @@ area-cut width rows r k pos =
     (lt-ltb (k / width) rows (omega arith)))
 
 -- ---- for readers
-
--- (px, py) is a pixel of the rectangle and lies in the rows
-pub record Remains (r : Rect) (width rows px py : ℕ) : Type 0 where
-  pub has : Has (r .x) (r .y) (r .w) (r .h) px py
-  pub across : px < width
-  pub down : py < rows
 
 -- nothing is left exactly when no pixel remains
 pub nothing-left : (r : Rect) (width rows : ℕ)

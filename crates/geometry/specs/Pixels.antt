@@ -1,5 +1,5 @@
 -- Pixels in rows: document 01, "What is lent". A lent memory is a list of pixels; only the places below its length are there.
-use Prim.Native.Nat.{ℕ, zero, suc, _+_, _*_, _/_, _%_}
+use Prim.Native.Nat.{ℕ, zero, suc, _+_, _*_, _/_, _%_, _<_, _≤_}
 use mathlib.Core.Bool.{Bool, _&&_, cond}
 use mathlib.Core.List.{List, [], _∷_}
 use lib.Dec.{leb, ltb}
@@ -41,3 +41,16 @@ painted inside new old = tabulate (length old) (λ k. cond (inside k) (new k) (g
 -- The same for a painter that may be refused: where it is, the old pixels.
 unfoldable pub paintedIf : Bool → (ℕ → Bool) → (ℕ → ℕ) → List ℕ → List ℕ
 paintedIf fits inside new old = cond fits (painted inside new old) old
+
+-- For readers: (px, py) is a pixel of w by h pixels at (x, y).
+pub record Has (x y w h px py : ℕ) : Type 0 where
+  pub left : x ≤ px
+  pub right : px < x + w
+  pub top : y ≤ py
+  pub bottom : py < y + h
+
+-- It is one of the rectangle and lies in the rows: cut to them, it remains.
+pub record Remains (r : Rect) (width rows px py : ℕ) : Type 0 where
+  pub has : Has (r .x) (r .y) (r .w) (r .h) px py
+  pub across : px < width
+  pub down : py < rows

@@ -24,3 +24,7 @@ cutTo r width rows = cutOf (r .x) (r .y) (spanBelow width (r .x) (r .w)) (spanBe
 unfoldable pub cutCopy : ℕ → ℕ → Rect → ℕ → ℕ → Cut
 cutCopy sx sy r width rows =
     cutOf (r .x) (r .y) (spanBelow width sx (spanBelow width (r .x) (r .w))) (spanBelow rows sy (spanBelow rows (r .y) (r .h)))
+
+-- w by h pixels at (x, y).
+abbrev pub rect : ℕ → ℕ → ℕ → ℕ → Rect
+rect x y w h = record { x = x; y = y; w = w; h = h }

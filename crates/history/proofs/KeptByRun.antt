@@ -37,8 +37,8 @@ use Rattle.command.specs.declared.Action.the-variants as A
 use Rattle.command.specs.declared.Kind.{Kind}
 use Rattle.command.specs.declared.Kind.the-variants.{Update, RectFill, RectCopy, RectRopFill, RectRopCopy, DefineAlphaCursor, UpdateVerbose, Fence, Escape, Foreign}
 use Rattle.command.specs.Commands.{entry, kindIn}
-use Rattle.command.specs.Findings.{findsIn}
-use Rattle.command.proofs.Rules.{onMachine, turn-found}
+use Rattle.command.specs.Findings.{findsIn, onMachine}
+use Rattle.command.proofs.Rules.{turn-found}
 use Rattle.effect.specs.declared.Marks.{Marks}
 use Rattle.effect.specs.Effects.{Scene, Machine, screenAfter, definedAfter, cursorAfter, marksAfter, done}
 use Rattle.run.specs.Turns.{Ready}

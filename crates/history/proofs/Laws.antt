@@ -11,17 +11,18 @@ use Rattle.execution.specs.Straight.{Turn}
 use Rattle.execution.specs.Claim.{Op, taken, fed}
 use Rattle.execution.specs.Claim as C
 use Rattle.execution.specs.Queue.{Queue, Played, fresh, act, play}
-use Rattle.execution.proofs.Laws.{Laws}
 use Rattle.execution.proofs.QueueLaws.{play-ops, demand3}
+use Rattle.execution.specs.Table.{Laws}
 use Rattle.ring.specs.declared.Ring.{Ring}
 use Rattle.ring.specs.Waiting.{carried}
 use Rattle.command.proofs.Laws.{command-laws}
 use Rattle.effect.specs.Effects.{Machine, done}
 use Rattle.run.specs.Run.{knownOf}
+use Rattle.device_run.specs.Run.{sceneFor}
 use Rattle.device.specs.declared.Condition.the-variants.{Running}
 use Rattle.device.specs.Device.{conditionOf}
-use Rattle.history.specs.Calls.{World, CallOutcome, perform, History, performAll}
-use Rattle.history.specs.Demand.{isStart, sceneOf, worldTurn, worldMachine, callOf, numbersOf, Shown}
+use Rattle.history.specs.Calls.{World, CallOutcome, perform, performAll}
+use Rattle.history.specs.Demand.{isStart, worldTurn, worldMachine, callOf, numbersOf, Shown}
 use Rattle.history.specs.Replay.{opsOf, walk, walkOf, Replays}
 use Rattle.history.proofs.Places.{in-words}
 use Rattle.history.proofs.Steps.{Started, Shows, Step, shows-stands, shows-ring, shows-stop, append-step, run-step, started, start-shows}
@@ -59,23 +60,20 @@ module _ (g : Ring) (w₀ : World) (e : isStart w₀ ≡ true) (q : conditionOf 
   abbrev played : Played Machine
   played = play (cap g w₀) (turn g w₀) os (fresh (worldMachine w₀))
 
-  abbrev history : History
-  history = performAll (map callOf os) w₀
-
   led : Plays g w₀ 0 w₀ (fresh (worldMachine w₀)) os
   led = plays g w₀ (started w₀ e) os 0 w₀ (fresh (worldMachine w₀)) (start-shows g w₀ e q)
 
-  shown : Shows g w₀ (length (fed (played .events))) (history .world) (played .queue)
+  shown : Shows g w₀ (length (fed (played .events))) (performAll (map callOf os) w₀ .world) (played .queue)
   shown = rw zero-add at (led .shows)
 
   laws : (10 ≤ cap g w₀) × Laws (cap g w₀) (turn g w₀)
   laws =
       let i = in-words (g .min) (g .max) (w₀ .lent .ring) (start-shows g w₀ e q .holds) in
       let h : 10 ≤ cap g w₀ = omega arith in
-      (h, command-laws knownOf (done (sceneOf w₀)) (cap g w₀) h)
+      (h, command-laws knownOf (done (sceneFor (w₀ .device) (w₀ .lent))) (cap g w₀) h)
 
   -- DEMAND 3: from every start, every list of appends and runs through the public calls.
-  pub demand-3 : Shown g w₀ os history
+  pub demand-3 : Shown g w₀ os (performAll (map callOf os) w₀)
   demand-3 = record {
     events = played .events;
     asked = play-ops (cap g w₀) (turn g w₀) os (fresh (worldMachine w₀));
@@ -88,9 +86,9 @@ module _ (g : Ring) (w₀ : World) (e : isStart w₀ ≡ true) (q : conditionOf 
   }
 
   -- The device's sizes and registers and the framebuffer stay.
-  pub stays : (history .world .device .sizes ≡ w₀ .device .sizes)
-      × (history .world .device .registers ≡ w₀ .device .registers)
-      × (history .world .lent .framebuffer ≡ w₀ .lent .framebuffer)
+  pub stays : (performAll (map callOf os) w₀ .world .device .sizes ≡ w₀ .device .sizes)
+      × (performAll (map callOf os) w₀ .world .device .registers ≡ w₀ .device .registers)
+      × (performAll (map callOf os) w₀ .world .lent .framebuffer ≡ w₀ .lent .framebuffer)
   stays = (shown .sizes, shown .registers, shown .framebuffer)
 
 -- the same of a list of words

@@ -8,8 +8,8 @@ use lib.ListN.{length, drop, length-drop}
 use lib.Seq.{drop-drop}
 use Rattle.execution.specs.Straight.{Turn, ends, exec, Line, beyond, next}
 use Rattle.execution.specs.Turns.{LineRun, runs}
-use Rattle.execution.proofs.Laws.{Laws}
 use Rattle.execution.proofs.QueueLaws.{runs-ends, runs-exec}
+use Rattle.execution.specs.Table.{Laws}
 
 -- ---- the words
 

@@ -15,12 +15,11 @@ use Rattle.geometry.proofs.Tests.{both}
 use Rattle.execution.specs.declared.Cause.{Cause}
 use Rattle.execution.specs.declared.End.the-variants.{Drained, Waiting, Fault}
 use Rattle.execution.specs.Straight.{Turn, Line, more}
-use Rattle.execution.specs.Table.{turnOf}
+use Rattle.execution.specs.Table.{turnOf, Laws}
 use Rattle.execution.specs.Claim.{Op, Answer, spent, standing, ended, taken, counted, metEnd, met}
 use Rattle.execution.specs.Claim as C
 use Rattle.execution.specs.Turns.{LineRun, runs}
 use Rattle.execution.specs.Queue.{Queue, Acted, fresh, offer, settle, try, act}
-use Rattle.execution.proofs.Laws.{Laws}
 use Rattle.ring.specs.declared.Ring.{Ring}
 use Rattle.ring.specs.Acceptance.{minOf, maxOf, nextOf, stopOf, usable}
 use Rattle.ring.specs.Append.{canAppend, appendTo, appendOf}
@@ -36,10 +35,10 @@ use Rattle.device.specs.declared.Device.{Device}
 use Rattle.device.specs.declared.Condition.{Condition}
 use Rattle.device.specs.declared.Condition.the-variants.{Running, Faulted}
 use Rattle.device.specs.Device.{memoryOf, pixelsOf, widthOf, heightOf, enabledOf, configuredOf, conditionOf, sizesGood, modeGood, conditionGood, modeFits, wellFormed}
-use Rattle.device_run.specs.Run.{Lent, withRing, RunOutcome, lentGood, conditionAfter, ran, runBy, runOf}
+use Rattle.device_run.specs.Run.{Lent, withRing, RunOutcome, lentGood, conditionAfter, sceneFor, ran, runBy, runOf}
 use Rattle.device.proofs.Laws.{well-formed}
 use Rattle.history.specs.Calls.{World, CallOutcome, append, run, perform}
-use Rattle.history.specs.Demand.{ringAtStart, isStart, sceneOf, worldTurn, worldWords, worldMachine, worldLine, standsIn, wordsOn, numbersOf}
+use Rattle.history.specs.Demand.{ringAtStart, isStart, worldTurn, worldWords, worldMachine, worldLine, standsIn, wordsOn, numbersOf}
 use Rattle.run.proofs.RunLaws.{turn-kept}
 use Rattle.history.proofs.Runs.{Leaves, run-leaves}
 use Rattle.history.proofs.KeptByRun.{Sound, sound-exec}
@@ -268,14 +267,14 @@ module _ (g : Ring) (w₀ : World) where
           lt-ltb (nextOf memory / 4) (g .max) (i .next-below),
         )
 
-    same-scene : sceneOf w ≡ sceneOf w₀
+    same-scene : sceneFor (w .device) (w .lent) ≡ sceneFor (w₀ .device) (w₀ .lent)
     same-scene = λ i. scene (s .registers i .width) (s .registers i .height) (s .framebuffer i)
 
     -- the device's run is the queue's
-    runs-so : (b : ℕ) → runIn (sceneOf w) now b memory (worldMachine w) ≡ left now memory (q .line .words) (runs turn b (q .line))
+    runs-so : (b : ℕ) → runIn (sceneFor (w .device) (w .lent)) now b memory (worldMachine w) ≡ left now memory (q .line .words) (runs turn b (q .line))
     runs-so b =
         ap (λ c. runIn c now b memory (worldMachine w)) same-scene
-        ∙ run-in (sceneOf w₀) now b memory (worldMachine w) fits-now next-now
+        ∙ run-in (sceneFor (w₀ .device) (w₀ .lent)) now b memory (worldMachine w) fits-now next-now
         ∙ ap (λ (l : Line Machine). left now memory (l .words) (runs turn b l)) (s .line)
 
     abbrev after : RunOutcome → World
@@ -324,7 +323,7 @@ module _ (g : Ring) (w₀ : World) where
     outcome o = record { answer = o .answer; values = o .count ∷ []; world = after o }
 
     laws : Laws cap turn
-    laws = command-laws knownOf (done (sceneOf w₀)) cap (omega (arith, places))
+    laws = command-laws knownOf (done (sceneFor (w₀ .device) (w₀ .lent))) cap (omega (arith, places))
 
     sound-line : Right (q .line .machine)
     sound-line = subst (λ (l : Line Machine). Right (l .machine)) (s .line) (s .sound)
@@ -335,7 +334,13 @@ module _ (g : Ring) (w₀ : World) where
     run-by b (some c) e = record { same-answers = refl; shows = rw add-zero s }
     run-by b none e =
         subst (λ (o : R.RingOutcome). Step k (C.run b) (outcome (ran (w .device) (w .lent) o)) (settle (runs turn b (q .line)))) (sym (runs-so b))
-        (record { same-answers = refl; shows = rw add-zero (left-shows (runs turn b (q .line)) (run-leaves laws Right (sound-exec (sceneOf w₀) (w₀ .lent .screen) (st .wide) cap) b (q .line) sound-line)) })
+        (record {
+          same-answers = refl;
+          shows =
+              rw add-zero
+              (left-shows (runs turn b (q .line))
+              (run-leaves laws Right (sound-exec (sceneFor (w₀ .device) (w₀ .lent)) (w₀ .lent .screen) (st .wide) cap) b (q .line) sound-line));
+        })
 
     pub run-step : (b : ℕ) → Step k (C.run b) (perform (run b) w) (act cap turn (C.run b) q)
     unfolding perform act

@@ -15,7 +15,8 @@ use Rattle.device.specs.declared.Device.{Device}
 use Rattle.device_run.specs.declared.Ran.{Ran}
 use Rattle.device_run.specs.Run.{Lent, withRing, RunOutcome, runNumber, ranOf, runOf}
 use Rattle.history.specs.Calls.{World, perform, performAll}
-use Rattle.history.specs.Replay.{world, opOf, opsOf, answersIn, Walk, walk, walkOf, Pair, pairOf}
+use Rattle.history.specs.Replay.{world, opOf, opsOf, answersIn, Walk, walk, walkOf}
+use Rattle.history.specs.Pairs.{Pair, pairOf}
 
 -- ---- one pair
 

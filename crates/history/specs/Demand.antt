@@ -13,11 +13,11 @@ use Rattle.execution.specs.Claim as C
 use Rattle.ring.specs.declared.Ring.{Ring}
 use Rattle.ring.specs.Acceptance.{minOf, maxOf, nextOf, stopOf, usable}
 use Rattle.ring.specs.Waiting.{after, waiting, carried}
-use Rattle.effect.specs.Effects.{Scene, Machine}
+use Rattle.effect.specs.Effects.{Machine}
 use Rattle.device.specs.declared.Condition.{Condition}
 use Rattle.device.specs.declared.Condition.the-variants.{Idle, Running, Faulted}
 use Rattle.device.specs.Device.{enabledOf, configuredOf, conditionOf, modeFits, wellFormed}
-use Rattle.device_run.specs.Run.{lentGood, machineOf, sceneFor, turnFor}
+use Rattle.device_run.specs.Run.{lentGood, machineOf, turnFor}
 use Rattle.history.specs.Calls.{World, Call, append, run, CallOutcome, History}
 
 -- "Its ring was last accepted with NEXT_CMD = STOP and since then nothing was written to it and no run made, refusals aside." Of that the state shows: no
@@ -39,9 +39,6 @@ isStart w =
     && (modeFits (w .device) && ringAtStart (w .lent .ring) (conditionOf (w .device))))))
 
 -- "uses its framebuffer, mode, MIN and MAX": document 01's table and turn, as of the start.
-abbrev pub sceneOf : World → Scene
-sceneOf w = sceneFor (w .device) (w .lent)
-
 abbrev pub worldTurn : World → Ring → Machine → List ℕ → Turn Machine
 worldTurn w g = turnFor (w .device) (w .lent) g
 

@@ -4,3 +4,4 @@ pub mod Demand
 pub mod Keeping
 pub mod Replay
 pub mod OtherId
+pub mod Pairs

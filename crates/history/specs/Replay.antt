@@ -10,11 +10,10 @@ use Rattle.ring.specs.declared.Ring.{Ring}
 use Rattle.device.specs.declared.Device.{Device}
 use Rattle.device.specs.declared.Condition.the-variants.{Running}
 use Rattle.device.specs.Device.{conditionOf}
-use Rattle.history.specs.declared.Performed.{Performed}
 use Rattle.history.specs.declared.Replayed.{Replayed}
 use Rattle.history.specs.declared.Replayed.the-variants.{Refused, Done}
 use Rattle.device_run.specs.Run.{Lent}
-use Rattle.history.specs.Calls.{World, CallOutcome, perform, History, performAll}
+use Rattle.history.specs.Calls.{World, CallOutcome, History, performAll}
 use Rattle.history.specs.Demand.{isStart, callOf, Shown}
 
 -- A replay makes no picture, and needs no output.
@@ -57,20 +56,6 @@ walk list w = record { list = list; world = w }
 
 unfoldable pub walkOf : List ℕ → World → Walk
 walkOf list w = walk (answersIn list (historyOf list w .outcomes)) (historyOf list w .world)
-
--- One pair of a list: the number that its call answers, its count, and what it leaves.
-pub record Pair : Type 0 where
-  pub answer : ℕ
-  pub count : ℕ
-  pub world : World
-
-abbrev pub performed : Performed → Lent → Pair
-performed p l = record { answer = p .answer; count = p .count; world = world (p .device) l }
-
-unfoldable pub pairOf : ℕ → ℕ → World → Pair
-pairOf kind operand w =
-    let o = perform (callOf (opOf kind operand)) w in
-    record { answer = o .answer; count = countIn (o .values); world = o .world }
 
 -- Each pair of the list was a public call on what the last one left, and all of it together is demand 3.
 pub record Replays (w₀ : World) (list₀ list : List ℕ) (w : World) : Type 0 where

@@ -6,7 +6,8 @@ ghost use mathlib.Core.Path.{_≡_};
 ghost use Rattle.device.specs.declared.Condition.the-variants.{Running};
 ghost use Rattle.device_run.specs.Run.{lentBefore, lentAfter};
 ghost use Rattle.history.specs.Demand.{ringAtStart, isStart};
-ghost use Rattle.history.specs.Replay.{world, performed, pairOf, walk, walkOf, ReplayResult};
+ghost use Rattle.history.specs.Replay.{world, walk, walkOf, ReplayResult};
+ghost use Rattle.history.specs.Pairs.{performed, pairOf};
 
 // The device as the list left it, or that the list was not begun.
 pub enum Replayed {

@@ -1,7 +1,7 @@
 -- The update of all rows and then the overlay give the picture; and what the picture promises of single pixels, for readers.
 -- Assumes nothing.
 use mathlib.Core.Path.{_≡_, sym, _∙_}
-use mathlib.Core.Bool.{Bool, true, false, _&&_, cond}
+use mathlib.Core.Bool.{true, false, cond}
 use mathlib.Core.List.{List}
 use Prim.Native.Nat.{ℕ, _*_, _/_, _<_}
 use native.Mathlib.Nat.{mod-lt}
@@ -13,7 +13,8 @@ use borrow.Table.Steps.{cases}
 use Rattle.geometry.specs.Pixels.{rowOf, inRect, inArea, painted}
 use Rattle.geometry.proofs.Tests.{both, and-yes, same-bool}
 use Rattle.geometry.proofs.Painted.{getD-painted, is-painted, painted-region, painted-if, refused-if, length-painted-if, outside-if}
-use Rattle.geometry.proofs.Cutting.{rect, rect-in}
+use Rattle.geometry.proofs.Cutting.{rect-in}
+use Rattle.geometry.specs.Rectangle.{rect}
 use Rattle.pixel.specs.Blend.{blendPixel}
 use Rattle.raster.specs.Painters.{rowsFit, updated}
 use Rattle.raster.proofs.Cuts.{Fit, rows-fit}
@@ -23,7 +24,7 @@ use Rattle.cursor.proofs.Laws.{length-overlaid}
 use Rattle.picture.specs.declared.VisibleCursor.{VisibleCursor}
 use Rattle.picture.specs.declared.Overlay.{Overlay}
 use Rattle.picture.specs.declared.Overlay.the-variants.{Nothing, Cursor}
-use Rattle.picture.specs.Picture.{coveredBy, pixelOver, picturePixel, composed}
+use Rattle.picture.specs.Picture.{coveredBy, pixelOver, picturePixel, composed, lent}
 
 -- the pixels of the whole rectangle are those of the rows
 whole-area : (width rows k : ℕ) → 0 < width → inArea width rows (rect 0 0 width rows) k ≡ ltb (rowOf width k) rows
@@ -35,10 +36,6 @@ whole-area width rows k wide =
     let m = mod-lt k wide in
     let b = ltb-true (k / width) rows e in
     and-yes _ _ (rect-in width 0 0 width rows k (record { left = omega arith; right = omega arith; top = omega arith; bottom = omega arith })) e)
-
--- the rows fit what is lent
-abbrev pub lent : ℕ → ℕ → List ℕ → List ℕ → Bool
-lent width rows screen old = rowsFit width rows (length old) && leb (width * rows) (length screen)
 
 -- the output after the update of the whole rectangle
 abbrev pub brought : ℕ → ℕ → List ℕ → List ℕ → List ℕ

@@ -25,8 +25,11 @@ unfoldable pub picturePixel : ℕ → ℕ → Overlay → List ℕ → List ℕ 
 picturePixel width rows over screen image k =
     cond (coveredBy width rows over (length image) k) (blendPixel (pixelOver width over image k) (getD screen k 0)) (getD screen k 0)
 
+-- The rows fit the screen and the output that are lent.
+abbrev pub lent : ℕ → ℕ → List ℕ → List ℕ → Bool
+lent width rows screen old = rowsFit width rows (length old) && leb (width * rows) (length screen)
+
 -- "output beyond the mode is unchanged". Where the rows do not fit what is lent, nothing changes.
 unfoldable pub composed : ℕ → ℕ → Overlay → List ℕ → List ℕ → List ℕ → List ℕ
 composed width rows over screen image old =
-    paintedIf (rowsFit width rows (length old) && leb (width * rows) (length screen)) (λ k. ltb (rowOf width k) rows)
-    (picturePixel width rows over screen image) old
+    paintedIf (lent width rows screen old) (λ k. ltb (rowOf width k) rows) (picturePixel width rows over screen image) old

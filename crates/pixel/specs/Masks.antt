@@ -1,5 +1,5 @@
--- The raster operations by masks: what the row loops compute. Nothing here has to be believed: `Reduces` and `Merges` say that masks
--- give `rasterOp`, and the contracts of `reduce_pixel` and `merge_pixel` that what these return is it, whatever the formula.
+-- The raster operations by masks, as the functions for row loops compute them. `Reduces` and `Merges` say that masks give `rasterOp`, and the contracts of
+-- `reduce_pixel` and `merge_pixel` that what these return is it, whatever the formula.
 use mathlib.Core.Path.{_≡_}
 use mathlib.Core.Bool.{cond}
 use Prim.Native.Nat.{ℕ, _^_, _<_}

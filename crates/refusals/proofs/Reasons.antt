@@ -17,10 +17,10 @@ use Rattle.execution.specs.declared.Cause.the-variants.{NotOffered, BadOperand,
 use Rattle.execution.specs.declared.End.{End}
 use Rattle.execution.specs.declared.End.the-variants.{Drained, Waiting, Fault}
 use Rattle.execution.specs.Straight.{causeNumber, endNumber, Turn, ends, exec, Line, beyond, endOf, next, straight, whole, ending}
-use Rattle.execution.specs.Table.{unless, turnOf}
+use Rattle.execution.specs.Table.{unless, turnOf, Laws}
 use Rattle.execution.specs.Claim.{Answer, spent, standing, ended, answerNumber, verdict}
 use Rattle.execution.specs.Turns.{runs}
-use Rattle.execution.proofs.Laws.{Laws, Goes, here, on, goes-shorter, straight-total}
+use Rattle.execution.proofs.Laws.{Goes, here, on, goes-shorter, straight-total}
 use Rattle.execution.proofs.QueueLaws.{runs-ends, runs-exec, RunsRight, run-right}
 use Rattle.ring.specs.declared.Ring.{Ring}
 use Rattle.ring.specs.Waiting.{waiting, carried, placed, nextGood}
@@ -30,8 +30,8 @@ use Rattle.register.specs.declared.Writable.{Writable}
 use Rattle.register.specs.declared.Writable.the-variants.{Id, Enable, Width, Height, ConfigDone, Sync, GuestId, CursorId, CursorX, CursorY, CursorOn}
 use Rattle.command.proofs.Laws.{command-laws}
 use Rattle.effect.specs.Effects.{Scene, Machine, done}
-use Rattle.run.specs.Turns.{viewOf}
-use Rattle.run.specs.Run.{knownOf, table, turnIn, left, runWords, nextUnusable, fitting, runIn}
+use Rattle.run.specs.Turns.{viewOf, nextUnusable}
+use Rattle.run.specs.Run.{knownOf, table, turnIn, left, runWords, fitting, runIn}
 use Rattle.run.proofs.RunLaws.{fitting-placed, left-same, run-next-unusable, run-good}
 use Rattle.device.specs.declared.Condition.the-variants.{Idle, Running, Faulted}
 use Rattle.device.specs.declared.Device.{Device}

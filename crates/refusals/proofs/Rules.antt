@@ -15,10 +15,10 @@ use Rattle.geometry.proofs.Tests.{by-cond, not-both}
 use Rattle.execution.specs.declared.Cause.the-variants.{NotOffered, BadOperand, TooLong, BadNext}
 use Rattle.execution.specs.declared.End.the-variants.{Drained, Waiting, Fault}
 use Rattle.execution.specs.Straight.{Turn, ends, exec, Line}
-use Rattle.execution.specs.Table.{turnOf}
+use Rattle.execution.specs.Table.{turnOf, Laws}
 use Rattle.execution.specs.Claim.{Answer, answerNumber}
 use Rattle.execution.specs.Turns.{LineRun}
-use Rattle.execution.proofs.Laws.{Laws, Goes, goes-steps, goes-straight}
+use Rattle.execution.proofs.Laws.{Goes, goes-steps, goes-straight}
 use Rattle.execution.proofs.QueueLaws.{RunsRight}
 use Rattle.ring.specs.declared.Ring.{Ring}
 use Rattle.ring.specs.Acceptance.{nextOf}

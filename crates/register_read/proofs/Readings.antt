@@ -26,7 +26,7 @@ use Rattle.register_write.proofs.Effects.{is, changedBy, only-own, id-stored, i
 use Rattle.register_write.proofs.Kept.{Went, outside, effected, other-length, unusable, accepts, went, taken-effect, Left, same, changed, written-left, written-well-formed, part-kept}
 use Rattle.register_read.specs.Answers.{Reading}
 use Rattle.register_read.specs.Registers.{writableValue, readOnlyValue, readBy, readOf}
-use Rattle.register_read.specs.AfterWrites.{affected, has, affects, stored}
+use Rattle.register_read.specs.AfterWrites.{affected, has, affects}
 
 -- what the whole table reads
 abbrev readings : Device → List Reading
@@ -114,6 +114,21 @@ pub value-kept : (d : Device) (ring : List ℕ) (i v : ℕ) (r : Writable) → (
 value-kept d ring i v r n =
     part-kept (λ (x : Device). writableValue (x .registers) r) d ring i v
     (λ w q e. value-changed d e w r (ne-eqb _ _ (λ s. n (q ∙ ap Writes (same-number w r s)))))
+
+-- "Each reads back the value last taken, ID and SYNC as said": whether a value that is taken is read back. "0 ID (0x90000000, ..01, ..02 are stored; any other
+-- value is taken and changes nothing ..)". "SYNC reads 0."
+abbrev pub stored : Writable → ℕ → Bool
+stored Id v = isId v
+stored Sync v = false
+stored Enable v = true
+stored Width v = true
+stored Height v = true
+stored ConfigDone v = true
+stored GuestId v = true
+stored CursorId v = true
+stored CursorX v = true
+stored CursorY v = true
+stored CursorOn v = true
 
 effect-back : (d : Device) (v : ℕ) (w : Writable) → inRange w v ≡ true → ringAsked w v ≡ false → stored w v ≡ true → writableValue (effectOf d v w .registers) w ≡ v
 unfolding writableValue

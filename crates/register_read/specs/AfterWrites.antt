@@ -37,21 +37,6 @@ has j (n ∷ ns) = eqb j n || has j ns
 abbrev pub affects : Writable → Register → Bool
 affects w r = has (numberOf r) (affected w)
 
--- "Each reads back the value last taken, ID and SYNC as said": whether a value that is taken is read back. "0 ID (0x90000000, ..01, ..02 are stored; any other
--- value is taken and changes nothing ..)". "SYNC reads 0."
-abbrev pub stored : Writable → ℕ → Bool
-stored Id v = isId v
-stored Sync v = false
-stored Enable v = true
-stored Width v = true
-stored Height v = true
-stored ConfigDone v = true
-stored GuestId v = true
-stored CursorId v = true
-stored CursorX v = true
-stored CursorY v = true
-stored CursorOn v = true
-
 -- ---- by index and value
 
 -- "Each reads back the value last taken, ID and SYNC as said." ID: "0x90000000, ..01, ..02 are stored; any other value is taken and changes nothing", so it

@@ -1,4 +1,5 @@
--- When a register write answers each number, for readers: document 01, "Registers" and "Answer numbers".
+-- When a register write answers each number, by the tests of the definitions: what proofs go by. Nothing here has to be believed: document 01's rules in its
+-- own words are in refusals/specs/Refusing.antt.
 use mathlib.Core.Path.{_≡_}
 use mathlib.Core.Bool.{true, false}
 use mathlib.Core.List.{List}

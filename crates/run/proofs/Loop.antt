@@ -27,8 +27,8 @@ use Rattle.effect.specs.declared.Marks.{Marks}
 use Rattle.effect.specs.Effects.{Scene, Machine, done}
 use Rattle.run.specs.declared.View.{View}
 use Rattle.run.specs.declared.Paused.{Paused}
-use Rattle.run.specs.Turns.{wordsIn, InView, Stands, passedIn, rowIn, rowEnd}
-use Rattle.run.specs.Run.{knownOf, machine, table, placeOf, passed, stamped, left, runWords}
+use Rattle.run.specs.Turns.{wordsIn, InView, Stands, passedIn, rowIn, rowEnd, placeOf}
+use Rattle.run.specs.Run.{knownOf, machine, table, passed, stamped, left, runWords}
 use Rattle.run.specs.Going.{plus, line, turn, marked, Going, RowGoing, After, turnedBy, turned}
 use Rattle.run.proofs.Copying.{straight}
 use Rattle.run.proofs.Counts.{plus-zero, plus-end, plus-one, plus-plus, stamped-further}

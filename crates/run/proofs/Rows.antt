@@ -24,8 +24,8 @@ use Rattle.command.specs.declared.Data.{Data}
 use Rattle.command.specs.declared.Step.{Step}
 use Rattle.command.specs.declared.Step.the-variants.{Does}
 use Rattle.command.specs.declared.Step.the-variants as Step
-use Rattle.command.specs.Findings.{stepIn}
-use Rattle.command.proofs.Rules.{onMachine, turn-found}
+use Rattle.command.specs.Findings.{stepIn, onMachine}
+use Rattle.command.proofs.Rules.{turn-found}
 use Rattle.command.proofs.Steps.{KeepsCursor, whole, does-turn}
 use Rattle.effect.specs.Effects.{Scene, Machine, screenAfter, fenceAfter, definedAfter, cursorAfter, done}
 use Rattle.run.specs.declared.Pause.the-variants.{Spent, Short, Faults, Long}

@@ -24,8 +24,8 @@ use Rattle.ring.proofs.Laws.{placed-when}
 use Rattle.ring.proofs.WaitingLaws.{ahead-zero}
 use Rattle.effect.specs.Effects.{Scene, Machine}
 use Rattle.run.specs.declared.View.{View}
-use Rattle.run.specs.Turns.{Stands, wordsIn, viewOf}
-use Rattle.run.specs.Run.{table, placeOf, turnIn, left, runWords, nextUnusable, fitting, runIn}
+use Rattle.run.specs.Turns.{Stands, wordsIn, viewOf, placeOf, nextUnusable}
+use Rattle.run.specs.Run.{table, turnIn, left, runWords, fitting, runIn}
 use Rattle.run.proofs.Laws.{next-says, in-view}
 
 -- where the tests of lengths fail

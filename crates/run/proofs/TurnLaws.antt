@@ -28,10 +28,10 @@ use Rattle.command.specs.declared.Finding.{Finding}
 use Rattle.command.specs.declared.Finding.the-variants.{Ends, Executes}
 use Rattle.command.specs.declared.Step.the-variants as Step
 use Rattle.command.specs.Commands.{entry, kindOf, kindIn}
-use Rattle.command.specs.Findings.{findsIn, asTurn, kindWith, begun, stepIn}
+use Rattle.command.specs.Findings.{findsIn, asTurn, kindWith, begun, stepIn, onMachine}
 use Rattle.command.proofs.Laws.{head-some, command-laws}
 use Rattle.command.proofs.Begun.{finds-alike, length-begun, word-begun, kind-begun}
-use Rattle.command.proofs.Rules.{onMachine, turn-found, turn-none}
+use Rattle.command.proofs.Rules.{turn-found, turn-none}
 use Rattle.command.proofs.Steps.{short-few, short-turn, fault-turn, long-kind, long-there}
 use Rattle.effect.specs.declared.Marks.{Marks}
 use Rattle.effect.specs.Effects.{Scene, Machine, screenAfter, cursorAfter, marksAfter, done}

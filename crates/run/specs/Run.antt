@@ -18,7 +18,6 @@ use Rattle.ring.specs.Waiting.{ahead, waiting, carried, placed, nextGood}
 use Rattle.command.specs.Commands.{Known, commands}
 use Rattle.effect.specs.declared.Marks.{Marks}
 use Rattle.effect.specs.Effects.{Scene, Machine, done}
-use Rattle.run.specs.declared.View.{View}
 use Rattle.run.specs.declared.RunEnd.{RunEnd}
 use Rattle.run.specs.declared.RunEnd.the-variants.{Spent, Ended}
 use Rattle.run.specs.declared.RingRun.{RingRun}
@@ -69,14 +68,6 @@ ringOutcome r ring screen cursor = record {
   machine = machine (r .marks) screen cursor;
 }
 
--- The remembered ring of a view.
-abbrev pub placeOf : View → Ring
-placeOf v = record { min = v .lo; max = v .hi; stop = v .at }
-
--- What the code gives that ended at a view.
-abbrev pub ranTo : View → RunEnd → ℕ → Marks → RingRun
-ranTo v answer count marks = record { answer = answer; count = count; ring = placeOf v; marks = marks }
-
 -- STOP has passed the words that turns dropped. "The run changes no other ring word, and none if it consumed nothing."
 unfoldable pub left : Ring → List ℕ → List ℕ → Turns.LineRun Machine → RingOutcome
 left g ring words r =
@@ -92,10 +83,6 @@ left g ring words r =
 -- A run of all turns on these words.
 unfoldable pub runWords : (Machine → List ℕ → O.Turn Machine) → Ring → ℕ → List ℕ → List ℕ → Machine → RingOutcome
 runWords turn g budget ring words m = left g ring words (Turns.runs turn budget (record { words = words; machine = m }))
-
--- The answer where NEXT_CMD is unusable: "budget used up: 2" comes before 13.
-unfoldable pub nextUnusable : ℕ → Claim.Answer
-nextUnusable budget = cond (eqb budget 0) Claim.spent (Claim.ended (Fault BadNext))
 
 -- The remembered ring lies in the ring memory, and in the largest that a device can have, 2,097,152 bytes; the cursor image has its 4,096 words.
 unfoldable pub fitting : Ring → ℕ → ℕ → Bool

@@ -2,7 +2,7 @@
 use Prim.Native.Nat.{ℕ, _+_, _-_, _*_, _/_, _≤_, _<_}
 use mathlib.Core.Bool.{cond}
 use mathlib.Core.List.{List}
-use lib.Dec.{ltb}
+use lib.Dec.{ltb, eqb}
 use lib.ListN.{length, take, drop}
 use mathlib.Core.Path.{_≡_}
 use Rattle.cursor.specs.Plane.{maxSide, imageWords}
@@ -12,6 +12,12 @@ use Rattle.ring.specs.Waiting.{ahead, between, words}
 use Rattle.command.specs.declared.Action.{Action}
 use Rattle.command.specs.declared.Action.the-variants.{Update, Fill, Copy, Define, Fence, Nothing}
 use Rattle.run.specs.declared.View.{View}
+use Rattle.run.specs.declared.RingRun.{RingRun}
+use Rattle.run.specs.declared.RunEnd.{RunEnd}
+use Rattle.execution.specs.declared.Cause.the-variants.{BadNext}
+use Rattle.execution.specs.declared.End.the-variants.{Fault}
+use Rattle.effect.specs.declared.Marks.{Marks}
+use Rattle.execution.specs.Claim as Claim
 
 -- The words of a view.
 abbrev pub wordsIn : List ℕ → View → List ℕ
@@ -65,3 +71,15 @@ pub record LineOf (words line : List ℕ) (e : ℕ) : Type 0 where
   pub low : 4 ≤ e
   pub high : e ≤ 14
   pub row : rowIn line 4 e ≡ take 10 words
+
+-- The remembered ring of a view.
+abbrev pub placeOf : View → Ring
+placeOf v = record { min = v .lo; max = v .hi; stop = v .at }
+
+-- What the code gives that ended at a view.
+abbrev pub ranTo : View → RunEnd → ℕ → Marks → RingRun
+ranTo v answer count marks = record { answer = answer; count = count; ring = placeOf v; marks = marks }
+
+-- The answer where NEXT_CMD is unusable: "budget used up: 2" comes before 13.
+unfoldable pub nextUnusable : ℕ → Claim.Answer
+nextUnusable budget = cond (eqb budget 0) Claim.spent (Claim.ended (Fault BadNext))

@@ -22,9 +22,9 @@ ghost use Rattle.command.specs.Commands.{kindIn};
 ghost use Rattle.command.specs.Findings.{kindWith};
 ghost use Rattle.effect.specs.Effects.{scene, cursorAfter};
 ghost use Rattle.run.specs.declared.Stop.the-variants.{Goes, Stops};
-ghost use Rattle.run.specs.Turns.{InView, Stands, wordsIn, passedIn, viewOf, Ready, rowEnd, LineOf};
+ghost use Rattle.run.specs.Turns.{InView, Stands, wordsIn, passedIn, viewOf, Ready, rowEnd, LineOf, placeOf, ranTo, nextUnusable};
 ghost use Rattle.run.specs.Going.{RowRun, pauseOf, after, turned, DataTurned};
-ghost use Rattle.run.specs.Run.{ranTo, machine, table, placeOf, stamped, ringOutcome, runWords, fitting, nextUnusable, answerOf, runIn};
+ghost use Rattle.run.specs.Run.{machine, table, stamped, ringOutcome, runWords, fitting, answerOf, runIn};
 
 // The words that wait in a ring from word lo to below word hi: n of them, from word at on.
 struct View {

@@ -20,16 +20,16 @@ use Rattle.register_write.proofs.Kept.{written-well-formed}
 use Rattle.device_run.specs.Run.{runOf}
 use Rattle.adapter.specs.Fence.{fenceOf, fencePassed}
 use Rattle.device_words.specs.declared.Held.the-variants.{Device as Holds, Nothing}
-use Rattle.device_words.specs.Words.{wordsOf, deviceFrom, same, spelledIn, heldIn}
-use Rattle.device_words.proofs.RoundTrip.{device-back, read-back, HeldBy, held-words}
+use Rattle.device_words.specs.Words.{wordsOf, deviceFrom, same, spelledIn, heldIn, HeldBy}
+use Rattle.device_words.proofs.RoundTrip.{device-back, read-back, held-words}
 use Rattle.svga.specs.Calls.{svgaMake, writeHeld, svgaWrite, readHeld, svgaRead, runHeld, svgaRun, pictureHeld, svgaPicture}
 use Rattle.svga.specs.Calls.{edgesHeld, svgaOffscreen, fenceHeld, svgaFence, passedHeld, svgaPassed}
 use Rattle.history.specs.Calls.{Call, make, write, read, run, append, picture, offscreen, fence, passed, lend, perform}
 use Rattle.history.specs.Harm.{among}
 use Rattle.history.proofs.KeptByRun.{run-well-formed}
 use Rattle.history.proofs.NoHarm.{run-bounded}
-use Rattle.svga_history.specs.WordCalls.{Host, worldIn, HoldsDevice, WordOutcome, outcome, performWords, asCall, WordHost, WordCall}
-use Rattle.svga_history.specs.WordHarm.{wordRow, Lends}
+use Rattle.svga_history.specs.WordCalls.{Host, worldIn, HoldsDevice, outcome, performWords, asCall, WordHost, WordCall}
+use Rattle.svga_history.specs.WordHarm.{wordRow, Lends, Away}
 use Rattle.svga_history.proofs.Fitting.{answer-unpacked, value-unpacked, words-fit, words-marks, bit-word, read-word}
 
 -- ---- the words of a host
@@ -99,13 +99,6 @@ as-adapter (passed number) h b a there =
 as-adapter (lend l output) h b a u = refl
 
 -- ---- any other call is refused
-
--- a refusal: in the call's row, with nothing changed and its values 0
-pub record Away (c : Call) (h : Host) (o : WordOutcome) : Type 0 where
-  pub high : 20 ≤ o .answer
-  pub in-row : among (o .answer) (wordRow c) ≡ true
-  pub same : o .host ≡ h
-  pub silent : (i : ℕ) → getD (o .values) i 0 ≡ 0
 
 -- without a value, and with one
 no-value : (c : Call) (h : Host) (a : ℕ) → 20 ≤ a → among a (wordRow c) ≡ true → Away c h (outcome a [] h)

@@ -22,12 +22,17 @@ use Rattle.history.proofs.Laws.{demand-3}
 use Rattle.history.specs.Keeping.{starting, answers}
 use Rattle.history.proofs.Starts.{start-reached}
 use Rattle.svga_history.specs.WordCalls.{Host, worldIn, HoldsDevice, performWords, performWordsAll, asHistory, WordHost, WordCalls}
-use Rattle.svga_history.specs.WordHarm.{Lends, LendsAll, EdgesStay}
+use Rattle.svga_history.specs.WordHarm.{Lends, EdgesStay}
 use Rattle.svga_history.proofs.AsAdapter.{held-by, words-hold, as-adapter, still-held}
 use Rattle.svga_history.proofs.WordsStay.{words-stay}
 use Rattle.svga_history.proofs.NoHarmWords.{edges-stay}
 
 -- ---- lists of calls
+
+-- Each call of a list is lent what it asks, on what the last one left.
+abbrev LendsAll : List Call → Host → Type 0
+LendsAll [] h = Unit {0}
+LendsAll (c ∷ cs) h = Lends c h × LendsAll cs (performWords c h .host)
 
 -- A list of calls, each lent what it asks, is the list of the device's own calls on the device in the words.
 pub as-history : (cs : List Call) (h : Host) → WordCalls cs → WordHost h → LendsAll cs h → asHistory (performWordsAll cs h) ≡ performAll cs (worldIn h)
@@ -108,10 +113,7 @@ unfolding performWords svgaMake madeOf
 made-held memory pixels h t n = rw (eq-eqb _ _ n, t) (words-hold (fresh memory pixels) (fresh-well-formed memory pixels t))
 
 module _ (h : Host) (memory pixels width height : ℕ) where
-  abbrev cs : List Call
-  cs = starting memory pixels width height
-
-  starting-lends : sizesGood memory pixels ≡ true → length (h .device) ≡ 64 → LendsAll cs h
+  starting-lends : sizesGood memory pixels ≡ true → length (h .device) ≡ 64 → LendsAll (starting memory pixels width height) h
   starting-lends t n =
       let h₁ = performWords (make memory pixels) h .host in
       let h₂ = performWords (write 2 width) h₁ .host in
@@ -128,13 +130,14 @@ module _ (h : Host) (memory pixels width height : ℕ) where
       → 1 ≤ width → width ≤ maxWidth → 1 ≤ height → height ≤ maxHeight → width * height ≤ pixels
       → length (h .lent .ring) ≡ memory / 4 → length (h .lent .framebuffer) ≡ pixels → length (h .lent .screen) ≡ pixels → length (h .lent .cursor) ≡ 4096
       → usable (h .lent .ring) ≡ true → nextOf (h .lent .ring) ≡ stopOf (h .lent .ring)
-      → (answers (asHistory (performWordsAll cs h)) ≡ 0 ∷ 0 ∷ 0 ∷ 0 ∷ 0 ∷ [])
-      × HoldsDevice (performWordsAll cs h .host)
-      × (isStart (worldIn (performWordsAll cs h .host)) ≡ true)
-      × (performWordsAll cs h .host .lent ≡ h .lent)
-      × WordHost (performWordsAll cs h .host)
+      → (answers (asHistory (performWordsAll (starting memory pixels width height) h)) ≡ 0 ∷ 0 ∷ 0 ∷ 0 ∷ 0 ∷ [])
+      × HoldsDevice (performWordsAll (starting memory pixels width height) h .host)
+      × (isStart (worldIn (performWordsAll (starting memory pixels width height) h .host)) ≡ true)
+      × (performWordsAll (starting memory pixels width height) h .host .lent ≡ h .lent)
+      × WordHost (performWordsAll (starting memory pixels width height) h .host)
   unfolding performWordsAll
   start-reached-words a n t w₁ w₂ h₁ h₂ fits r f s k u e =
+      let cs = starting memory pixels width height in
       let b : WordCalls cs = (tt, (omega arith, (omega arith, (omega arith, (omega arith, tt))))) in
       let q = as-history cs h b a (starting-lends t n) in
       let z = start-reached (worldIn h) memory pixels width height t w₁ w₂ h₁ h₂ fits r f s k u e in (

@@ -22,8 +22,8 @@ use Rattle.command.specs.declared.Kind.{Kind}
 use Rattle.command.specs.declared.Kind.the-variants.{Update, RectFill, RectCopy, RectRopFill, RectRopCopy}
 use Rattle.command.specs.declared.Kind.the-variants.{DefineAlphaCursor, UpdateVerbose, Fence, Escape, Foreign}
 use Rattle.command.specs.Commands.{entry, kindIn}
-use Rattle.command.specs.Findings.{findsIn}
-use Rattle.command.proofs.Rules.{onMachine, turn-found}
+use Rattle.command.specs.Findings.{findsIn, onMachine}
+use Rattle.command.proofs.Rules.{turn-found}
 use Rattle.effect.specs.declared.Marks.{Marks}
 use Rattle.effect.specs.Effects.{Scene, scene, Machine, fenceAfter, definedAfter, marksAfter, done}
 use Rattle.run.specs.Run.{knownOf, table, turnIn, stamped, left, runWords, fitting, runIn}

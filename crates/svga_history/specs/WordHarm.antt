@@ -40,10 +40,12 @@ Lends fence h = HoldsDevice h
 Lends (passed number) h = HoldsDevice h
 Lends (lend l output) h = Unit {0}
 
--- Each call of a list is lent what it asks, on what the last one left.
-abbrev pub LendsAll : List Call → Host → Type 0
-LendsAll [] h = Unit {0}
-LendsAll (c ∷ cs) h = Lends c h × LendsAll cs (performWords c h .host)
+-- A refusal: a number in the call's row, with nothing changed and its values 0
+pub record Away (c : Call) (h : Host) (o : WordOutcome) : Type 0 where
+  pub high : 20 ≤ o .answer
+  pub in-row : among (o .answer) (wordRow c) ≡ true
+  pub same : o .host ≡ h
+  pub silent : (i : ℕ) → getD (o .values) i 0 ≡ 0
 
 -- Of the device and the memories a call changes the places that document 01 names.
 abbrev pub Named : Call → World → CallOutcome → Type 0

@@ -1,8 +1,8 @@
 -- `run::next_unusable` meets its contract.
 -- Assumes nothing.
 use borrow.Author.Tests.{eq-eqb, ne-eqb}
-use Rattle.run.specs.Run.{nextUnusable}
 use Rattle.run.proofs.next_unusable.Statement.{statement}
+use Rattle.run.specs.Turns.{nextUnusable}
 use Rattle.run.proofs.next_unusable.Tie as tie
 
 pub next-unusable-spec : {M : Type 1} → statement M
