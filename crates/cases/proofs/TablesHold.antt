@@ -10,7 +10,7 @@ use Rattle.command.specs.Commands.{entry, kindOf, commands}
 use Rattle.device.specs.Device.{sizesGood, modeGood, conditionGood, definedGood, wellFormed}
 use Rattle.register_read.specs.Registers.{writableValue, readOnlyValue, readBy, readOf}
 use Rattle.cases.specs.Cases.{AllEqual}
-use Rattle.cases.specs.Tables.{Reads, NotThere, freshDevice, freshReads, absent, setDevice, setReads, AllRows, commandTable, operations, foreignNumbers, NotOfferedAny, answerNumbers}
+use Rattle.cases.specs.Tables.{Reads, NotThere, freshDevice, freshReads, absent, setDevice, setReads, commandTable, CommandsHold, operations, foreignNumbers, NotOfferedAny, answerNumbers}
 
 pub fresh-reads : Reads freshDevice freshReads
 unfolding freshReads sizesGood modeGood conditionGood definedGood wellFormed registerOf numbers writableValue readOnlyValue readBy readOf
@@ -24,81 +24,9 @@ pub set-reads : Reads setDevice setReads
 unfolding setReads sizesGood modeGood conditionGood definedGood wellFormed placed registerOf numbers writableValue readOnlyValue readBy readOf
 set-reads = refl
 
-pub commands-hold : AllRows commandTable
+pub commands-hold : CommandsHold
 unfolding commandTable entry kindOf commands shapeGood unless turnOf runs
-commands-hold = (
-  refl,
-  refl,
-  refl,
-  refl,
-  refl,
-  refl,
-  refl,
-  (
-    refl,
-    refl,
-    refl,
-    refl,
-    refl,
-    refl,
-    refl,
-    (
-      refl,
-      refl,
-      refl,
-      refl,
-      refl,
-      refl,
-      refl,
-      (
-        refl,
-        refl,
-        refl,
-        refl,
-        refl,
-        refl,
-        refl,
-        (
-          refl,
-          refl,
-          refl,
-          refl,
-          refl,
-          refl,
-          refl,
-          (
-            refl,
-            refl,
-            refl,
-            refl,
-            refl,
-            refl,
-            refl,
-            (
-              refl,
-              refl,
-              refl,
-              refl,
-              refl,
-              refl,
-              refl,
-              (
-                refl,
-                refl,
-                refl,
-                refl,
-                refl,
-                refl,
-                refl,
-                (refl, refl, refl, refl, refl, refl, refl, tt),
-              ),
-            ),
-          ),
-        ),
-      ),
-    ),
-  ),
-)
+commands-hold = record { names = refl; offered = refl; heads = refl; lengths = refl; actions = refl; executed = refl; waiting = refl }
 
 pub operations-hold : AllEqual operations
 unfolding operations entry kindOf commands unless turnOf runs

@@ -167,20 +167,6 @@ pub record Command : Type 0 where
   pub length : ℕ
   pub does : Action
 
--- The claim: the number names the command, its row has these lengths and arguments; a run of budget 1 executes the example (answer 2), and waits (1) where
--- its last word is missing.
-abbrev pub AllRows : List Command → Type 0
-AllRows [] = Unit {0}
-AllRows (c ∷ cs) =
-    (kindOf (c .number) ≡ c .name)
-    × (entry (c .name) .offered ≡ true)
-    × (entry (c .name) .head ≡ c .head)
-    × (sizeBy (c .name) (c .example) ≡ c .length)
-    × (entry (c .name) .action (c .example) ≡ c .does)
-    × (answer (c .example) ≡ 2)
-    × (answer (take (c .length - 1) (c .example)) ≡ 1)
-    × AllRows cs
-
 abbrev pub from : ℕ → ℕ → Source
 from x y = record { x = x; y = y }
 
@@ -251,6 +237,20 @@ commandTable =
     -- "33 ESCAPE | head 3, then ceil(size/4) | namespace, size in bytes, data (no effect)": 5 bytes
     ∷ record { number = 33; name = Escape; head = 3; example = 33 ∷ 101 ∷ 5 ∷ 0 ∷ 0 ∷ []; length = 5; does = A.Nothing }
     ∷ []
+
+-- The claim, column by column: the number names the command, which is offered; its row has these lengths and arguments; a run of budget 1 executes the
+-- example (answer 2), and waits (1) where its last word is missing.
+abbrev pub column : {A : Type 0} → (Command → A) → List A
+column of = map of commandTable
+
+pub record CommandsHold : Type 0 where
+  pub names : column (λ c. kindOf (c .number)) ≡ column (λ c. c .name)
+  pub offered : column (λ c. entry (c .name) .offered) ≡ column (λ c. true)
+  pub heads : column (λ c. entry (c .name) .head) ≡ column (λ c. c .head)
+  pub lengths : column (λ c. sizeBy (c .name) (c .example)) ≡ column (λ c. c .length)
+  pub actions : column (λ c. entry (c .name) .action (c .example)) ≡ column (λ c. c .does)
+  pub executed : column (λ c. answer (c .example)) ≡ column (λ c. 2)
+  pub waiting : column (λ c. answer (take (c .length - 1) (c .example))) ≡ column (λ c. 1)
 
 -- "Raster operation above 15: 11.": of a fill and of a copy, 15 and 16.
 unfoldable pub operations : List Case
