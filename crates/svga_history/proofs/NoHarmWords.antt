@@ -17,11 +17,11 @@ use Rattle.device_words.specs.Words.{wordsOf}
 use Rattle.device_words.proofs.RoundTrip.{words-count}
 use Rattle.svga.specs.Calls.{svgaMake, writeHeld, svgaWrite, runHeld, svgaRun, edgesHeld, svgaOffscreen}
 use Rattle.history.specs.Calls.{World, Call, make, write, read, run, append, picture, offscreen, fence, passed, lend, CallOutcome, perform}
-use Rattle.history.specs.Harm.{row, among}
+use Rattle.history.specs.Harm.{row, among, OnlyNamed}
 use Rattle.history.proofs.NoHarm.{safe}
 use Rattle.svga_history.specs.WordCalls.{Host, host, worldIn, HoldsDevice, performWords, HostStep, call, put, stepped}
 use Rattle.svga_history.specs.WordCalls.{WordHost, WordCall, WordStep, WordSteps}
-use Rattle.svga_history.specs.WordHarm.{wordRow, Lends, Named, DeviceStays, EdgesStay, SafeWords, SafeStep, HarmlessWords}
+use Rattle.svga_history.specs.WordHarm.{wordRow, Lends, DeviceStays, EdgesStay, SafeWords, SafeStep, HarmlessWords}
 use Rattle.svga_history.proofs.AsAdapter.{by-words, held-by, whole, as-adapter, lends-or-away, still-held}
 use Rattle.svga_history.proofs.WordsStay.{words-stay}
 
@@ -152,7 +152,7 @@ safe-words c h b a =
           (λ z. z .in-row) which;
       refused = λ n. ⊎-elim (λ l. refused-stays c h b a l n) (λ z. z .same) which;
       refused-values = λ n i. ⊎-elim (λ l. refused-silent c h b a l n i) (λ z. z .silent i) which;
-      lent = λ l. subst (Named c (worldIn h)) (sym (as-adapter c h b a l)) (own .only-named);
+      lent = λ l. subst (OnlyNamed c (worldIn h)) (sym (as-adapter c h b a l)) (own .only-named);
       not-lent = λ no. ⊎-elim (λ l. absurd (no l)) (λ z. z .high) which;
       held = still-held c h;
       device = device-stays c h;

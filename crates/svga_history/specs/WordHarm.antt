@@ -5,7 +5,7 @@ use mathlib.Core.Path.{_≡_}
 use mathlib.Core.Bool.{true}
 use mathlib.Core.List.{List, [], _∷_}
 use lib.ListN.{length, getD}
-use Rattle.history.specs.Calls.{World, Call, make, write, read, run, append, picture, offscreen, fence, passed, lend, CallOutcome}
+use Rattle.history.specs.Calls.{Call, make, write, read, run, append, picture, offscreen, fence, passed, lend}
 use Rattle.history.specs.Harm.{among, OnlyNamed}
 use Rattle.svga_history.specs.WordCalls.{Host, worldIn, HoldsDevice, WordOutcome, performWords, asCall, HostStep, call, put, stepped, WordHost}
 
@@ -47,10 +47,6 @@ pub record Away (c : Call) (h : Host) (o : WordOutcome) : Type 0 where
   pub same : o .host ≡ h
   pub silent : (i : ℕ) → getD (o .values) i 0 ≡ 0
 
--- Of the device and the memories a call changes the places that document 01 names.
-abbrev pub Named : Call → World → CallOutcome → Type 0
-Named c w o = OnlyNamed c w o
-
 -- The device's words are written by making, by register writes and by runs alone; none is added or lost.
 abbrev pub DeviceStays : Call → List ℕ → List ℕ → Type 0
 DeviceStays (make memory pixels) before after = length after ≡ length before
@@ -85,8 +81,8 @@ pub record SafeWords (c : Call) (h : Host) (o : WordOutcome) : Type 0 where
   -- a refused call leaves every lent word, and its values are 0
   pub refused : 20 ≤ o .answer → o .host ≡ h
   pub refused-values : 20 ≤ o .answer → (i : ℕ) → getD (o .values) i 0 ≡ 0
-  -- one that is lent what it asks changes only what it may, and any other is refused
-  pub lent : Lends c h → Named c (worldIn h) (asCall o)
+  -- one that is lent what it asks changes of the device and the memories only what it may, and any other is refused
+  pub lent : Lends c h → OnlyNamed c (worldIn h) (asCall o)
   pub not-lent : (Lends c h → ⊥) → 20 ≤ o .answer
   -- words that hold a device hold one afterwards
   pub held : HoldsDevice h → HoldsDevice (o .host)
