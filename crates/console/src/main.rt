@@ -9,6 +9,8 @@ use libc::STDIN_FILENO;
 use libc::STDOUT_FILENO;
 ghost use Prim.Native.Nat.{_≤_};
 ghost use mathlib.Core.Path.{_≡_};
+ghost use mathlib.Core.Bool.{_&&_};
+ghost use lib.Dec.{ltb};
 ghost use lib.ListN.{length, take};
 ghost use Rattle.device_run.specs.Run.{lentBefore, lentAfter};
 ghost use Rattle.console_answers.specs.Put.{putAt};
@@ -36,7 +38,9 @@ fn write_out(out: &[u8], n: usize) -> bool
 }
 
 // Nothing read is the input's end; nobody reads what cannot be written.
-fn goes_on(sent: bool, n: usize) -> bool {
+fn goes_on(sent: bool, n: usize) -> bool
+    ensures { λ r. ⌜ r ≡ sent && ltb 0 n ⌝ }
+{
     if sent {
         return 0 < n;
     }
