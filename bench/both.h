@@ -55,16 +55,21 @@ static inline bool both_keep_alike(void) {
     return svga_fence(device, SVGA_DEVICE_WORDS) == peer_fence(&peer) && !memcmp(device + 16, theirs, sizeof theirs);
 }
 
-// An empty ring from word 4 on, of as many words as are to be lent.
-static inline void empty_ring(uint32_t *ring, size_t words) {
-    ring[SVGA_FIFO_MIN] = ring[SVGA_FIFO_NEXT_CMD] = ring[SVGA_FIFO_STOP] = 16;
-    ring[SVGA_FIFO_MAX] = (uint32_t)words * 4;
+// An empty ring from word `first` to below word `end`.
+static inline void empty_ring_at(uint32_t *ring, uint32_t first, size_t end) {
+    ring[SVGA_FIFO_MIN] = ring[SVGA_FIFO_NEXT_CMD] = ring[SVGA_FIFO_STOP] = first * 4;
+    ring[SVGA_FIFO_MAX] = (uint32_t)end * 4;
 }
 
-// Writes a word at ring word *at, in a ring from word 4 to its memory's end.
-static inline void put(uint32_t *ring, size_t words, uint32_t *at, uint32_t word) {
+// Writes a word at ring word *at of such a ring.
+static inline void put_at(uint32_t *ring, uint32_t first, size_t end, uint32_t *at, uint32_t word) {
     ring[*at] = word;
-    if (++*at == words) *at = 4;
+    if (++*at == end) *at = first;
 }
+
+// The rings that are timed begin where fences are posted, as those of boards do, and go to the end of the words that are lent.
+enum { FIRST = SVGA_RING_START_FENCE / 4 };
+static inline void empty_ring(uint32_t *ring, size_t words) { empty_ring_at(ring, FIRST, words); }
+static inline void put(uint32_t *ring, size_t words, uint32_t *at, uint32_t word) { put_at(ring, FIRST, words, at, word); }
 
 #endif

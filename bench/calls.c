@@ -7,7 +7,7 @@
 #include "both.h"
 #include "common.h"
 
-enum { RING_WORDS = SVGA_MEMORY_MIN / 4, PIXELS = 1024, CALLS = 500 };
+enum { RING_WORDS = FIRST + SVGA_RING_BYTES_MIN / 4, PIXELS = 1024, CALLS = 500 };
 
 static uint32_t ring[2][RING_WORDS]; // ours, the C device's
 static uint32_t framebuffer[PIXELS], screen[PIXELS], cursor[SVGA_CURSOR_WORDS];
@@ -45,7 +45,8 @@ static bool append_alike(void) {
 }
 static bool run_alike(void) {
     uint32_t budget = random_number(8);
-    return our_run(&ours, budget) == c_run(&theirs, budget) && ring[0][SVGA_FIFO_STOP] == ring[1][SVGA_FIFO_STOP];
+    return our_run(&ours, budget) == c_run(&theirs, budget) && ring[0][SVGA_FIFO_STOP] == ring[1][SVGA_FIFO_STOP] &&
+           ring[0][SVGA_FIFO_FENCE] == ring[1][SVGA_FIFO_FENCE];
 }
 static bool fences_alike(void) {
     uint32_t fence = random_number(40);

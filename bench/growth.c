@@ -9,7 +9,7 @@
 #include "common.h"
 
 enum { WIDTH = SVGA_WIDTH_MAX, HEIGHT = SVGA_HEIGHT_MAX, PIXELS = WIDTH * HEIGHT };
-enum { RING_WORDS = SVGA_MEMORY_MAX / 4, FIRST = 4 };
+enum { RING_WORDS = SVGA_MEMORY_MAX / 4 };
 static const uint32_t ALL = 0xFFFFFFFF; // a budget
 
 static uint32_t *ring, *framebuffer, *screen, *cursor, *output;
@@ -262,7 +262,7 @@ static void time_appends(int rounds, struct times *times) {
 }
 
 static bool ring_size_costs_nothing(int rounds) {
-    static const uint32_t ring_bytes[] = {10240, 20480, 65536, 262144, 1048576, 2097136};
+    static const uint32_t ring_bytes[] = {10240, 20480, 65536, 262144, 1048576, SVGA_MEMORY_MAX - 4 * FIRST};
     struct times times[MOST_ROWS][MOST_COLUMNS] = {0};
     for (int pass = 0; pass < PASSES; pass++) {
         for (size_t i = 0; i < COUNT(ring_bytes); i++) {

@@ -255,6 +255,7 @@ static uint64_t run_commands(struct peer *p, uint32_t budget) {
         case SVGA_CMD_FENCE:
             if (waiting < (words = 2)) return result(1, count);
             p->fence = head(p, stop, 2, local)[1];
+            if (min >= SVGA_RING_START_FENCE / 4) ring[SVGA_FIFO_FENCE] = p->fence;
             break;
         case SVGA_CMD_ESCAPE:
             if (waiting < 3) return result(1, count);

@@ -1,8 +1,8 @@
 // Speed of a run: streams of small commands with a large budget, run by our device and by a device in plain C, on the same memories.
 // A Markdown table of the time for one command, ours and the C device's, and of the same rectangles painted directly, with nothing parsed.
 // First some thousand small hostile rings are run by both devices and compared whole. Before a stream is timed, each contender runs it from
-// one screen and has to end with the same screen, and the devices with the same fence; then all run in turn, and the median of all rounds
-// counts. A device is made and set up anew for each stream, which is timed with it.
+// one screen and has to end with the same screen, and the devices with the same fence, posted to ring word 6; then all run in turn, and the
+// median of all rounds counts. A device is made and set up anew for each stream, which is timed with it.
 // With BEFORE_ABI the device of an older archive is a contender too: `bench/run --before LIB`.
 // The exit status is 1 if anything differs, and 0 otherwise: a missed target is only marked in the table.
 //
@@ -15,9 +15,9 @@ static const uint32_t ALL = 0xFFFFFFFF; // a budget
 
 // ---- the check before it: small hostile rings, run by both
 
-enum { SMALL_RING = SVGA_MEMORY_MIN / 4, SMALL_PIXELS = 1200 };
+enum { SMALL_SIZE = SVGA_RING_BYTES_MIN / 4, SMALL_RING = FIRST + 1 + SMALL_SIZE, SMALL_PIXELS = 1200 }; // rings from words 4 to 8 on
 
-static void put_hostile_command(uint32_t *ring, uint32_t *at, uint32_t width, uint32_t height) {
+static void put_hostile_command(uint32_t *ring, uint32_t first, uint32_t *at, uint32_t width, uint32_t height) {
     enum { UPDATE = 1, FILL = 2, COPY = 3, ROP_FILL = 13, ROP_COPY = 14, CURSOR = 22, UPDATE_VERBOSE = 25, FENCE = 30, ESCAPE = 33 };
     static const uint32_t numbers[] = {UPDATE, FILL, COPY, ROP_FILL, ROP_COPY, CURSOR, UPDATE_VERBOSE, FENCE, ESCAPE};
     uint32_t number = rand() % 200 == 0 ? random_number(40) : numbers[rand() % 9], a[8], n = 0;
@@ -43,21 +43,22 @@ static void put_hostile_command(uint32_t *ring, uint32_t *at, uint32_t width, ui
         if (rand() % 50 == 0) a[1] = random_number(64);
         a[n++] = w, a[n++] = h;
     }
-    put(ring, SMALL_RING, at, number);
-    for (uint32_t i = 0; i < n; i++) put(ring, SMALL_RING, at, a[i]);
-    for (uint32_t i = 0; i < data; i++) put(ring, SMALL_RING, at, random_word());
+    put_at(ring, first, first + SMALL_SIZE, at, number);
+    for (uint32_t i = 0; i < n; i++) put_at(ring, first, first + SMALL_SIZE, at, a[i]);
+    for (uint32_t i = 0; i < data; i++) put_at(ring, first, first + SMALL_SIZE, at, random_word());
 }
 
 static bool check_one(int trial) {
     static uint32_t ring[2][SMALL_RING], fb[SMALL_PIXELS], screen[2][SMALL_PIXELS], cursor[2][SVGA_CURSOR_WORDS];
     uint32_t width = 1 + (uint32_t)rand() % 40, height = 1 + (uint32_t)rand() % 30;
-    uint32_t stop = 4 + (uint32_t)rand() % (SMALL_RING - 4), at = stop;
+    uint32_t first = rand() % 2 ? FIRST : 4 + (uint32_t)rand() % 5; // most of them where fences are posted
+    uint32_t stop = first + (uint32_t)rand() % SMALL_SIZE, at = stop;
     for (int i = 0; i < SMALL_RING; i++) ring[0][i] = random_word();
     for (int i = 0; i < SMALL_PIXELS; i++) screen[0][i] = random_word(), fb[i] = random_word();
     for (int i = 0; i < SVGA_CURSOR_WORDS; i++) cursor[0][i] = random_word();
-    for (int n = rand() % 40; n > 0; n--) put_hostile_command(ring[0], &at, width, height);
-    if (rand() % 4 == 0) at = 4 + (uint32_t)rand() % (SMALL_RING - 4);
-    empty_ring(ring[0], SMALL_RING);
+    for (int n = rand() % 40; n > 0; n--) put_hostile_command(ring[0], first, &at, width, height);
+    if (rand() % 4 == 0) at = first + (uint32_t)rand() % SMALL_SIZE;
+    empty_ring_at(ring[0], first, first + SMALL_SIZE);
     ring[0][SVGA_FIFO_NEXT_CMD] = at * 4, ring[0][SVGA_FIFO_STOP] = stop * 4;
     if (rand() % 50 == 0) ring[0][rand() % 4] += (uint32_t)rand() % 8;
     if (rand() % 50 == 0) width = random_number(2560), height = random_number(1600);
@@ -68,8 +69,9 @@ static bool check_one(int trial) {
     struct lent ours = {ring[0], SMALL_RING, fb, screen[0], SMALL_PIXELS, cursor[0], width, height};
     struct lent theirs = {ring[1], SMALL_RING, fb, screen[1], SMALL_PIXELS, cursor[1], width, height};
     our_set_up(&ours), c_set_up(&theirs);
-    // NEXT_CMD may go bad after it was accepted.
+    // NEXT_CMD may go bad after it was accepted, and MIN, which is not read again.
     if (rand() % 20 == 0) ring[0][SVGA_FIFO_NEXT_CMD] = ring[1][SVGA_FIFO_NEXT_CMD] = random_number(SMALL_RING * 4);
+    if (rand() % 10 == 0) ring[0][SVGA_FIFO_MIN] = ring[1][SVGA_FIFO_MIN] = random_number(40);
     uint64_t our_end = our_run(&ours, budget), c_end = c_run(&theirs, budget);
     if (our_end == c_end && !memcmp(ring[0], ring[1], sizeof ring[0]) && !memcmp(screen[0], screen[1], sizeof screen[0]) &&
         !memcmp(cursor[0], cursor[1], sizeof cursor[0]) && both_keep_alike())
@@ -129,7 +131,7 @@ static void put_command(enum kind kind, uint32_t *at) {
 static uint32_t start_of_stream(void) { return RING_WORDS / 2 + 1; }
 
 static void make_stream(enum kind kind) {
-    uint32_t at = start_of_stream(), size = RING_WORDS - 4;
+    uint32_t at = start_of_stream(), size = RING_WORDS - FIRST;
     job_count = 0;
     for (;;) {
         uint32_t used = (at + size - start_of_stream()) % size;
@@ -205,9 +207,11 @@ static uint64_t (*const contender[])(void) = {
 enum { CONTENDERS = COUNT(contender), HAS_BEFORE = CONTENDERS > BEFORE };
 static const double TARGET = 1.0, TARGET_BEFORE = 1.05;
 
+enum { NONE_POSTED = 0x5A5A5A };
+
 // Runs one contender from the stream's start; a device has to consume every command.
 static bool run_stream(int c) {
-    ring[SVGA_FIFO_STOP] = start_of_stream() * 4;
+    ring[SVGA_FIFO_STOP] = start_of_stream() * 4, ring[SVGA_FIFO_FENCE] = NONE_POSTED;
     uint64_t ended = contender[c]();
     if (c == PIXMAN || c == ROWS) return true;
     return svga_answer_of(ended) == SVGA_ANSWER_DRAINED && svga_value_of(ended) == job_count &&
@@ -222,11 +226,20 @@ static bool devices_keep_alike(void) {
     return both_keep_alike();
 }
 
-// Whether all contenders, from one screen, end with one screen, and the devices with one fence.
+// The number of the stream's last FENCE, which ring word 6 then has to hold.
+static uint32_t last_fence(void) {
+    for (size_t i = job_count; i-- > 0;)
+        if (jobs[i].command == SVGA_CMD_FENCE) return jobs[i].colour;
+    return NONE_POSTED;
+}
+
+// Whether all contenders, from one screen, end with one screen, and the devices with one fence. Ours and the C device have to post it; an
+// older archive may be one that posts none.
 static bool all_agree(void) {
     for (int c = 0; c < CONTENDERS; c++) {
         memcpy(screen, old_screen, PIXELS * sizeof *screen);
         if (!run_stream(c)) return false;
+        if ((c == OURS || c == C_DEVICE) && ring[SVGA_FIFO_FENCE] != last_fence()) return false;
         if (c == 0) memcpy(first_screen, screen, PIXELS * sizeof *screen);
         if (memcmp(first_screen, screen, PIXELS * sizeof *screen)) return false;
     }

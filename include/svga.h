@@ -19,6 +19,9 @@
  *   - Memories lent to one call do not overlap.
  *   - Nobody else writes a lent memory during the call: pause the guest's processors, or lend copies. A guest may look on.
  *     Nothing is promised of memories that overlap or that somebody else writes meanwhile.
+ *     After a run on a copy of the ring write back word SVGA_FIFO_FENCE if the run changed it, and then word SVGA_FIFO_STOP if it did. It
+ *     changes word SVGA_FIFO_FENCE only where the ring was accepted with a MIN of 28 or more (device word 25 is 7 or more before the
+ *     run): below 28 that word is one of the ring's own, and the guest may have written it. A run changes no other ring word.
  *   - A pointer has its length's words behind it and is aligned for uint32_t. Where the length is 0 it may be NULL.
  *
  * What you need not look at:
@@ -57,6 +60,7 @@ extern "C" {
 #define SVGA_CURSOR_SIDE_MAX 64 /* a cursor's width and height, from 1 */
 #define SVGA_RING_BYTES_MIN 10240 /* the least MAX - MIN of a ring */
 #define SVGA_RING_START_MIN 16    /* the least MIN: the ring starts behind its four words */
+#define SVGA_RING_START_FENCE 28  /* the least MIN with which fences are posted: the ring starts behind word SVGA_FIFO_FENCE */
 
 /* ---- Answers */
 
@@ -152,6 +156,13 @@ extern "C" {
 #define SVGA_FIFO_NEXT_CMD 2 /* the guest writes its next word there */
 #define SVGA_FIFO_STOP 3     /* the device reads its next word there */
 
+/*
+ * The last fence, where the accepted MIN is 28 or more (SVGA_RING_START_FENCE): each FENCE that is executed also writes its number there,
+ * before STOP passes it, and a guest polls it. CONFIG_DONE 1 writes nothing there: a guest sets it before, to 0 or to the last fence that
+ * it knows. Where MIN is 16 to 24, ring word 6 is one of the ring's own.
+ */
+#define SVGA_FIFO_FENCE 6
+
 /* Commands: the number, then its arguments, a word each. Coordinates are unsigned; x + w never wraps; all is cut to the mode. */
 #define SVGA_CMD_UPDATE 1               /* x y w h: framebuffer pixels come to the screen */
 #define SVGA_CMD_RECT_FILL 2            /* colour x y w h */
@@ -160,7 +171,7 @@ extern "C" {
 #define SVGA_CMD_RECT_ROP_COPY 14       /* sx sy dx dy w h rop */
 #define SVGA_CMD_DEFINE_ALPHA_CURSOR 22 /* id hotx hoty w h, then w * h pixels 0xAARRGGBB, row by row */
 #define SVGA_CMD_UPDATE_VERBOSE 25      /* x y w h reason: as UPDATE */
-#define SVGA_CMD_FENCE 30               /* number */
+#define SVGA_CMD_FENCE 30               /* number: the last one is what svga_fence gives, and SVGA_FIFO_FENCE */
 #define SVGA_CMD_ESCAPE 33              /* namespace, size in bytes, then the data in whole words: no effect */
 
 /* Raster operations, as X numbers them: s is the colour or the pixel copied, d the pixel it falls on. */
@@ -256,9 +267,11 @@ uint64_t svga_read(const uint32_t *device, size_t device_len, uint32_t index);
  * so a run takes at most `budget` times what an update of the whole screen takes (README, "Choosing a budget"). Changes:
  *   - of the screen, pixels in the commands' rectangles cut to the mode, and no others
  *   - of the cursor image, for a cursor of w by h the first w * h words
- *   - of the ring, word SVGA_FIFO_STOP, if a command was consumed
+ *   - of the ring, word SVGA_FIFO_STOP, if a command was consumed, and word SVGA_FIFO_FENCE, if the accepted MIN is 28 or more and a FENCE
+ *     was executed
  *   - of the device words, those of BUSY, the fence, the defined cursor, the condition and the remembered STOP
- * MIN, MAX and STOP are the ones that CONFIG_DONE 1 remembered; what the guest writes to ring words 0, 1 and 3 afterwards is not read.
+ * MIN, MAX and STOP are the ones that CONFIG_DONE 1 remembered; what the guest writes to ring words 0, 1 and 3 afterwards is not read: it
+ * does not change whether fences are posted either.
  *
  *   SVGA_ANSWER_DRAINED, _WAITING, _SPENT                             where it ended
  *   SVGA_ANSWER_NOT_OFFERED, _BAD_OPERAND, _TOO_LONG, _BAD_NEXT_CMD   it ended in a fault; the count is of the commands before it

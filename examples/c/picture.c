@@ -56,10 +56,11 @@ static void start(void) {
     write_register("WIDTH", SVGA_REG_WIDTH, WIDTH);
     write_register("HEIGHT", SVGA_REG_HEIGHT, HEIGHT);
     write_register("ENABLE", SVGA_REG_ENABLE, 1);
-    ring[SVGA_FIFO_MIN] = SVGA_RING_START_MIN;
+    ring[SVGA_FIFO_MIN] = SVGA_RING_START_FENCE; // late enough for the word in which the last fence is posted
     ring[SVGA_FIFO_MAX] = RING_BYTES;
-    ring[SVGA_FIFO_NEXT_CMD] = SVGA_RING_START_MIN;
-    ring[SVGA_FIFO_STOP] = SVGA_RING_START_MIN;
+    ring[SVGA_FIFO_NEXT_CMD] = SVGA_RING_START_FENCE;
+    ring[SVGA_FIFO_STOP] = SVGA_RING_START_FENCE;
+    ring[SVGA_FIFO_FENCE] = 0; // none yet: accepting the ring does not write it
     write_register("CONFIG_DONE", SVGA_REG_CONFIG_DONE, 1);
 }
 
@@ -98,15 +99,13 @@ static void show_cursor(void) {
     write_register("CURSOR_ON", SVGA_REG_CURSOR_ON, SVGA_CURSOR_ON_SHOW);
 }
 
-// Appends a fence and runs, a few commands at a time, until it has passed.
+// Appends a fence, as the guest does, and polls for it in the ring memory, while the host runs a few commands at a time.
 static void wait_for_all(uint32_t fence) {
     append(SVGA_CMD_FENCE), append(fence);
-    for (;;) {
-        uint64_t passed = svga_fence_passed(device, SVGA_DEVICE_WORDS, fence);
-        if (svga_answer_of(passed) != SVGA_ANSWER_TAKEN) give_up("fence", svga_answer_of(passed));
-        if (svga_value_of(passed)) return;
+    while (ring[SVGA_FIFO_FENCE] != fence)
         if (run(16) == 0) give_up("fence that never passes", SVGA_ANSWER_WAITING);
-    }
+    uint64_t passed = svga_fence_passed(device, SVGA_DEVICE_WORDS, fence); // what a host asks instead
+    if (svga_answer_of(passed) != SVGA_ANSWER_TAKEN || !svga_value_of(passed)) give_up("fence", svga_answer_of(passed));
 }
 
 static void write_picture(const char *file) {

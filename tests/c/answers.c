@@ -4,7 +4,7 @@
 #include <stdio.h>
 #include <string.h>
 
-enum { MEMORY = 10256, WORDS = MEMORY / 4, PIXELS = 12, WIDTH = 4, HEIGHT = 3 };
+enum { MEMORY = SVGA_RING_BYTES_MIN + 64, WORDS = MEMORY / 4, PIXELS = 12, WIDTH = 4, HEIGHT = 3 };
 
 static uint32_t device[SVGA_DEVICE_WORDS], ring[WORDS], framebuffer[PIXELS], screen[PIXELS], cursor[SVGA_CURSOR_WORDS], output[PIXELS];
 static int checks, failures;
@@ -26,9 +26,10 @@ static uint64_t run(uint32_t budget) {
 static uint32_t picture(void) {
     return svga_picture(device, SVGA_DEVICE_WORDS, screen, PIXELS, cursor, SVGA_CURSOR_WORDS, output, PIXELS);
 }
-static void reset_ring(void) {
-    ring[SVGA_FIFO_MIN] = ring[SVGA_FIFO_NEXT_CMD] = ring[SVGA_FIFO_STOP] = SVGA_RING_START_MIN;
-    ring[SVGA_FIFO_MAX] = MEMORY;
+// An empty ring, the smallest one, from byte min on; it is empty at byte stop.
+static void reset_ring(uint32_t min, uint32_t stop) {
+    ring[SVGA_FIFO_MIN] = min, ring[SVGA_FIFO_MAX] = min + SVGA_RING_BYTES_MIN;
+    ring[SVGA_FIFO_NEXT_CMD] = ring[SVGA_FIFO_STOP] = stop;
 }
 static void append(int line, const uint32_t *words, size_t count) {
     for (size_t i = 0; i < count; i++) check(line, "append", svga_append(ring, WORDS, words[i]), SVGA_APPEND_TAKEN);
@@ -73,7 +74,7 @@ static void starting(void) {
     IS(run(1), both(SVGA_ANSWER_NOT_CONFIGURED, 0));
     IS(put(SVGA_REG_CONFIG_DONE, 1), SVGA_ANSWER_RING_REFUSED); // zeros are no ring
     IS(svga_append(ring, WORDS, 1), SVGA_APPEND_REFUSED);
-    reset_ring();
+    reset_ring(SVGA_RING_START_MIN, SVGA_RING_START_MIN);
     IS(svga_write(device, SVGA_DEVICE_WORDS, ring, WORDS - 1, SVGA_REG_CONFIG_DONE, 1), SVGA_ANSWER_LENT_LENGTH);
     IS(put(SVGA_REG_CONFIG_DONE, 2), SVGA_ANSWER_BAD_VALUE);
     IS(put(SVGA_REG_CONFIG_DONE, 1), SVGA_ANSWER_TAKEN);
@@ -158,24 +159,69 @@ static void faults(void) {
     IS(svga_is_refusal(svga_answer_of(run(9))), 1);
     IS(run(9), both(SVGA_ANSWER_FAULT_STANDS, 0));
     IS(device[24], SVGA_ANSWER_NOT_OFFERED);
-    reset_ring();
+    reset_ring(SVGA_RING_START_MIN, SVGA_RING_START_MIN);
     IS(put(SVGA_REG_CONFIG_DONE, 1), SVGA_ANSWER_TAKEN);
     APPEND(SVGA_CMD_DEFINE_ALPHA_CURSOR, 1, 0, 0, SVGA_CURSOR_SIDE_MAX + 1, 1);
     IS(run(9), both(SVGA_ANSWER_BAD_OPERAND, 0));
-    reset_ring();
+    reset_ring(SVGA_RING_START_MIN, SVGA_RING_START_MIN);
     IS(put(SVGA_REG_CONFIG_DONE, 1), SVGA_ANSWER_TAKEN);
     APPEND(SVGA_CMD_FENCE, 1, SVGA_CMD_ESCAPE, 0, 10225);
     IS(run(9), both(SVGA_ANSWER_TOO_LONG, 1));
-    reset_ring();
+    reset_ring(SVGA_RING_START_MIN, SVGA_RING_START_MIN);
     IS(put(SVGA_REG_CONFIG_DONE, 1), SVGA_ANSWER_TAKEN);
     ring[SVGA_FIFO_NEXT_CMD] = MEMORY;
     IS(svga_is_fault(svga_answer_of(run(9))), 1);
     IS(device[24], SVGA_ANSWER_BAD_NEXT_CMD);
 }
 
+// Accepts an empty ring, has one FENCE run and gives back ring word 6, which held 99 before. Ring word 0 is rewritten in between.
+static uint32_t posted(int line, uint32_t min, uint32_t stop, uint32_t word_0, uint32_t fence) {
+    const uint32_t words[] = {SVGA_CMD_FENCE, fence};
+    reset_ring(min, stop);
+    ring[SVGA_FIFO_FENCE] = 99;
+    check(line, "CONFIG_DONE", put(SVGA_REG_CONFIG_DONE, 1), SVGA_ANSWER_TAKEN);
+    check(line, "word 6 of an accepted ring", ring[SVGA_FIFO_FENCE], 99);
+    append(line, words, 2);
+    ring[SVGA_FIFO_MIN] = word_0;
+    check(line, "run", run(9), both(SVGA_ANSWER_DRAINED, 1));
+    check(line, "the fence", svga_fence(device, SVGA_DEVICE_WORDS), both(SVGA_ANSWER_TAKEN, fence));
+    check(line, "word 0", ring[SVGA_FIFO_MIN], word_0);
+    check(line, "STOP", ring[SVGA_FIFO_STOP], ring[SVGA_FIFO_NEXT_CMD]);
+    return ring[SVGA_FIFO_FENCE];
+}
+#define POSTED(min, stop, word_0, fence, is) check(__LINE__, "word 6", posted(__LINE__, min, stop, word_0, fence), is)
+
+static void fences(void) {
+    enum { MIDDLE = 1000, SIZE = SVGA_RING_BYTES_MIN };
+    POSTED(16, MIDDLE, 16, 7, 99); // below 28 it is one of the ring's own words ..
+    POSTED(20, MIDDLE, 20, 8, 99);
+    POSTED(24, MIDDLE, 24, 9, 99);
+    POSTED(24, 24 + SIZE - 4, 24, 10, 10); // .. here the FENCE's number, which the guest has appended
+    POSTED(28, MIDDLE, 28, 7, 7);
+    POSTED(32, MIDDLE, 32, UINT32_MAX, UINT32_MAX);
+    POSTED(28, 28, 28, 0, 0);
+    POSTED(28, 28 + SIZE - 4, 28, 8, 8); // over the ring's end, and up to it
+    POSTED(28, 28 + SIZE - 8, 28, 9, 9);
+    POSTED(28, MIDDLE, 16, 7, 7); // the accepted MIN decides
+    POSTED(24, MIDDLE, 28, 8, 99);
+
+    reset_ring(SVGA_RING_START_FENCE, MIDDLE);
+    ring[SVGA_FIFO_FENCE] = 99;
+    IS(put(SVGA_REG_CONFIG_DONE, 1), SVGA_ANSWER_TAKEN);
+    APPEND(SVGA_CMD_RECT_FILL, 7, 0, 0, 1, 1, SVGA_CMD_FENCE);
+    IS(run(0), both(SVGA_ANSWER_SPENT, 0));
+    IS(run(9), both(SVGA_ANSWER_WAITING, 1));
+    IS(ring[SVGA_FIFO_FENCE], 99); // no FENCE was executed
+    APPEND(11, SVGA_CMD_FENCE, 12, 20);
+    IS(run(1), both(SVGA_ANSWER_SPENT, 1));
+    IS(ring[SVGA_FIFO_FENCE], 11);
+    IS(run(9), both(SVGA_ANSWER_NOT_OFFERED, 1));
+    IS(ring[SVGA_FIFO_FENCE], 12); // before the fault
+}
+
 static void appending(void) {
-    reset_ring();
-    for (uint32_t i = 0; i < WORDS - 4 - 1; i++) IS(svga_append(ring, WORDS, i), SVGA_APPEND_TAKEN);
+    reset_ring(SVGA_RING_START_MIN, SVGA_RING_START_MIN);
+    for (uint32_t i = 0; i < SVGA_RING_BYTES_MIN / 4 - 1; i++) IS(svga_append(ring, WORDS, i), SVGA_APPEND_TAKEN);
     IS(svga_append(ring, WORDS, 0), SVGA_APPEND_REFUSED);
     IS(svga_append(NULL, 0, 0), SVGA_APPEND_REFUSED);
 }
@@ -187,6 +233,7 @@ int main(void) {
     drawing();
     saving();
     faults();
+    fences();
     appending();
     printf("answers: %d checks, %d failed\n", checks, failures);
     return failures != 0;

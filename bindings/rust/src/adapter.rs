@@ -1,6 +1,6 @@
 //! A device that owns its memories.
 
-use crate::{reg, ring, Command, Device, Edges, Error, Lent, Memory, Run, CURSOR_WORDS};
+use crate::{limit, reg, ring, Command, Device, Edges, Error, Lent, Memory, Run, CURSOR_WORDS};
 use std::fmt;
 
 /// A device with memories of its own, for hosts that drive it themselves, for tests and for small boards. A hypervisor that lends its
@@ -63,7 +63,7 @@ impl Adapter {
         let device = Device::new(memory, pixels)?;
         let plane = || vec![0; device.pixels()];
         let mut ring = vec![0; device.ring_words()];
-        ring::reset(&mut ring);
+        ring::reset(&mut ring, limit::RING_START_MIN);
         Ok(Adapter { ring, framebuffer: plane(), screen: plane(), cursor: vec![0; CURSOR_WORDS], output: Vec::new(), device })
     }
 
@@ -82,17 +82,43 @@ impl Adapter {
         Ok(Adapter { device, ring, framebuffer, screen, cursor, output: Vec::new() })
     }
 
-    /// Does what a driver does: sets the mode, enables the device, makes the ring empty and has it accepted.
+    /// Does what a driver does: sets the mode, enables the device, makes the ring empty and has it accepted. The ring begins at
+    /// [`limit::RING_START_MIN`], for which every memory has room; fences are not posted to ring word 6.
     ///
     /// # Errors
     ///
     /// [`Error::BadValue`] for a mode outside 1 to 2,560 by 1 to 1,600; [`Error::ModeTooLarge`] for one above the device's pixels, which
     /// then is set all the same.
     pub fn start(&mut self, width: u32, height: u32) -> Result<(), Error> {
+        self.start_at(limit::RING_START_MIN, width, height)
+    }
+
+    /// As [`Adapter::start`], with a ring that begins at byte `min` of its memory. From [`limit::RING_START_FENCE`] on fences are posted
+    /// to ring word 6, which begins with the last fence executed.
+    ///
+    /// ```
+    /// # use svga::{limit, Adapter, Command};
+    /// # fn main() -> Result<(), svga::Error> {
+    /// let mut adapter = Adapter::new(65_536, 1_024)?;
+    /// adapter.start_at(limit::RING_START_FENCE, 32, 32)?;
+    /// adapter.submit(&Command::Fence(7))?;
+    /// assert_eq!(adapter.posted_fence(), Some(0));
+    /// assert_eq!(adapter.run(1000)?.count, 1);
+    /// assert_eq!(adapter.posted_fence(), Some(7));
+    /// # Ok(())
+    /// # }
+    /// ```
+    ///
+    /// # Errors
+    ///
+    /// As [`Adapter::start`]; [`Error::RingRefused`] for a `min` that is below 16, no multiple of 4, or less than 10,240 bytes before the
+    /// memory's end. The mode is then set, and the ring words are written.
+    pub fn start_at(&mut self, min: u32, width: u32, height: u32) -> Result<(), Error> {
         self.write(reg::WIDTH, width)?;
         self.write(reg::HEIGHT, height)?;
         self.write(reg::ENABLE, 1)?;
-        ring::reset(&mut self.ring);
+        ring::reset(&mut self.ring, min);
+        ring::post(&mut self.ring, self.device.fence());
         self.write(reg::CONFIG_DONE, 1)?;
         match self.run(0) {
             Err(error @ Error::ModeTooLarge { .. }) => Err(error),
@@ -183,6 +209,11 @@ impl Adapter {
     /// Whether a fence has passed: [`Device::fence_passed`].
     pub fn fence_passed(&self, fence: u32) -> bool {
         self.device.fence_passed(fence)
+    }
+
+    /// The last fence, where a guest looks for it: [`ring::posted_fence`]. `None` where the ring begins too early for it.
+    pub fn posted_fence(&self) -> Option<u32> {
+        ring::posted_fence(&self.ring)
     }
 
     /// The device, with its words to be saved.

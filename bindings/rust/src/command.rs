@@ -85,7 +85,8 @@ pub enum Command<'a> {
         /// A number with no effect.
         reason: u32,
     },
-    /// Stores a number that the host can ask for: [`crate::Device::fence`].
+    /// Stores a number that the host can ask for, [`crate::Device::fence`], and that a guest finds in its ring memory where the ring
+    /// begins late enough: [`crate::ring::posted_fence`].
     Fence(u32),
     /// Data with no effect.
     Escape {

@@ -49,6 +49,8 @@ numbers! {
     RING_BYTES_MIN = 10_240;
     /// The least MIN of a ring: it starts behind its four words.
     RING_START_MIN = 16;
+    /// The least MIN with which fences are posted: the ring starts behind word [`crate::fifo::FENCE`].
+    RING_START_FENCE = 28;
 }
 
 numbers! {
@@ -197,7 +199,7 @@ numbers! {
 }
 
 numbers! {
-    /// The ring memory's first words: byte offsets from its start.
+    /// The ring memory's first words: byte offsets from its start, and a fence.
     fifo, "SVGA_FIFO_",
     /// Where the ring begins.
     MIN = 0;
@@ -207,6 +209,8 @@ numbers! {
     NEXT_CMD = 2;
     /// Where the device reads its next word.
     STOP = 3;
+    /// The last fence, where the accepted MIN is [`crate::limit::RING_START_FENCE`] or more; one of the ring's own words where it is less.
+    FENCE = 6;
 }
 
 numbers! {
@@ -226,7 +230,7 @@ numbers! {
     DEFINE_ALPHA_CURSOR = 22;
     /// x y w h reason.
     UPDATE_VERBOSE = 25;
-    /// number.
+    /// number; also written to ring word [`crate::fifo::FENCE`] where fences are posted.
     FENCE = 30;
     /// namespace, size in bytes, then the data in whole words.
     ESCAPE = 33;

@@ -1,6 +1,6 @@
 //! A device, with its memories lent to each call.
 
-use crate::{answer, fifo, reg, sys, End, Error, Fault, Memory, Run, CURSOR_WORDS, DEVICE_WORDS, EDGES_WORDS};
+use crate::{answer, fifo, limit, reg, sys, End, Error, Fault, Memory, Run, CURSOR_WORDS, DEVICE_WORDS, EDGES_WORDS};
 use std::fmt;
 
 /// Places in the device words.
@@ -10,6 +10,8 @@ mod place {
     pub const WIDTH: usize = 4;
     pub const HEIGHT: usize = 5;
     pub const CONDITION: usize = 24;
+    /// The remembered MIN, in words; 0 where no ring is remembered.
+    pub const MIN: usize = 25;
 }
 
 /// The memories lent to a run: the ring and the framebuffer are the guest's, the screen and the cursor image the host's.
@@ -121,6 +123,12 @@ impl Device {
         Fault::of(self.words[place::CONDITION])
     }
 
+    /// Whether a run writes the number of each FENCE to ring word 6 too: a ring is accepted whose MIN is [`limit::RING_START_FENCE`] or
+    /// more. What ring word 0 holds now does not count. In a fault it is false, since the ring is no longer remembered.
+    pub fn posts_fences(&self) -> bool {
+        self.words[place::MIN] >= limit::RING_START_FENCE / 4
+    }
+
     /// Writes a register of [`reg`]. Only CONFIG_DONE 1 looks at the ring: other writes may be lent none, `&[]`.
     ///
     /// # Errors
@@ -163,7 +171,11 @@ impl Device {
     }
 
     /// Runs at most `budget` commands out of the ring. It changes the screen within the commands' rectangles, the cursor image where a
-    /// cursor is defined, and of the ring the word STOP.
+    /// cursor is defined, and of the ring the word [`fifo::STOP`], and where the device [posts fences](Device::posts_fences) and a FENCE
+    /// is executed the word [`fifo::FENCE`].
+    ///
+    /// A host that lends a copy of the ring writes back the word FENCE if the run changed it, which it does only where the device posts
+    /// fences, and then the word STOP. Where it does not post them, the first is one of the ring's own, and the guest may have written it.
     ///
     /// # Errors
     ///

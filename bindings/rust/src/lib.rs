@@ -35,7 +35,7 @@
 //! With memories that lie elsewhere:
 //!
 //! ```
-//! use svga::{reg, ring, Device, Lent, CURSOR_WORDS};
+//! use svga::{limit, reg, ring, Device, Lent, CURSOR_WORDS};
 //!
 //! # fn main() -> Result<(), svga::Error> {
 //! let (mut guest_ring, guest_framebuffer) = (vec![0; 2_564], vec![0x00FF00; 1_024]);
@@ -46,7 +46,7 @@
 //! device.write(&[], reg::WIDTH, 32)?;
 //! device.write(&[], reg::HEIGHT, 32)?;
 //! device.write(&[], reg::ENABLE, 1)?;
-//! ring::reset(&mut guest_ring);
+//! ring::reset(&mut guest_ring, limit::RING_START_MIN);
 //! device.write(&guest_ring, reg::CONFIG_DONE, 1)?;
 //! for word in [svga::cmd::UPDATE, 0, 0, 32, 32] {
 //!     ring::append(&mut guest_ring, word)?;

@@ -120,7 +120,7 @@ fn values_outside_the_range_change_nothing() {
 fn a_ring_is_accepted_or_refused() {
     let mut device = Device::new(MEMORY, PIXELS).unwrap();
     let mut memory = vec![0; 2_564];
-    ring::reset(&mut memory);
+    ring::reset(&mut memory, limit::RING_START_MIN);
     assert_eq!(memory[..4], [16, 10_256, 16, 16]);
     let short = Error::Length { memory: Memory::Ring, lent: 2_563, wanted: 2_564 };
     assert_eq!(device.write(&memory[1..], reg::CONFIG_DONE, 1), Err(short));
@@ -205,7 +205,7 @@ fn faults_stand_until_a_ring_is_accepted() {
         let faulted = adapter.clone();
         assert_eq!(adapter.run(9), Err(Error::FaultStands(fault)));
         assert_eq!(adapter, faulted);
-        ring::reset(adapter.ring_mut());
+        ring::reset(adapter.ring_mut(), limit::RING_START_MIN);
         adapter.write(reg::CONFIG_DONE, 1).unwrap();
         assert_eq!(adapter.device().fault(), None);
         assert_eq!(adapter.run(9), run_of(End::Drained, 0));
@@ -236,7 +236,7 @@ fn what_a_guest_writes_to_the_rings_ends_later_is_not_read() {
 fn refusals_of_a_run_come_in_order() {
     let mut device = Device::new(MEMORY, PIXELS).unwrap();
     let (mut memory, framebuffer, mut screen, mut cursor) = (vec![0; 2_564], vec![0; 1_024], vec![0; 1_024], vec![0; CURSOR_WORDS]);
-    ring::reset(&mut memory);
+    ring::reset(&mut memory, limit::RING_START_MIN);
     memory[fifo::NEXT_CMD as usize] = 20;
     memory[4] = 20; // a command that is not offered
     macro_rules! run {
@@ -357,7 +357,7 @@ fn submit_runs_where_the_ring_is_full() {
 #[test]
 fn append_fills_the_ring_but_for_one_word() {
     let mut memory = vec![0; 2_564];
-    ring::reset(&mut memory);
+    ring::reset(&mut memory, limit::RING_START_MIN);
     for word in 0..2_559 {
         assert_eq!(ring::append(&mut memory, word), Ok(()));
     }
@@ -366,7 +366,7 @@ fn append_fills_the_ring_but_for_one_word() {
     assert_eq!(memory, full);
     assert_eq!(ring::append(&mut [], 1), Err(Error::AppendRefused));
     let mut tiny = [0; 3];
-    ring::reset(&mut tiny);
+    ring::reset(&mut tiny, limit::RING_START_MIN);
     assert_eq!(tiny, [0; 3]);
 }
 
@@ -455,6 +455,124 @@ fn fences_pass_and_wrap() {
     assert!(adapter.fence_passed(1) && adapter.fence_passed(0) && adapter.fence_passed(u32::MAX));
     assert!(!adapter.fence_passed(2) && !adapter.fence_passed(0x8000_0001));
     assert!(adapter.fence_passed(0x8000_0002));
+}
+
+// ---- the fence in ring word 6
+
+const FENCE: usize = fifo::FENCE as usize;
+
+/// An adapter whose ring begins at `min`, as small as a ring can be.
+fn started_at(min: u32) -> Adapter {
+    let mut adapter = Adapter::new(min + limit::RING_BYTES_MIN, PIXELS).unwrap();
+    adapter.start_at(min, 32, 32).unwrap();
+    adapter
+}
+
+/// Moves the empty ring's NEXT_CMD and STOP to `place` and has it accepted anew.
+fn accept_at(adapter: &mut Adapter, place: u32) {
+    adapter.ring_mut()[fifo::NEXT_CMD as usize] = place;
+    adapter.ring_mut()[fifo::STOP as usize] = place;
+    adapter.write(reg::CONFIG_DONE, 1).unwrap();
+}
+
+#[test]
+fn a_fence_is_posted_where_the_ring_begins_at_28_or_later() {
+    for min in [28, 32, 64, 4_096] {
+        let mut adapter = started_at(min);
+        let end = min + limit::RING_BYTES_MIN;
+        assert!(adapter.device().posts_fences());
+        assert_eq!(adapter.posted_fence(), Some(0));
+        // in a row of words, over the ring's end, and up to it
+        for (fence, place) in [(7, min + 400), (0x8000_0001, end - 4), (0, end - 8)] {
+            accept_at(&mut adapter, place);
+            adapter.submit(&Command::Fence(fence)).unwrap();
+            assert_eq!(adapter.run(9), run_of(End::Drained, 1));
+            assert_eq!((adapter.posted_fence(), adapter.fence()), (Some(fence), fence), "MIN {min}, STOP {place}");
+        }
+    }
+}
+
+#[test]
+fn below_28_word_6_is_the_rings_own() {
+    for min in [16, 20, 24] {
+        let mut adapter = started_at(min);
+        assert!(!adapter.device().posts_fences());
+        assert_eq!(adapter.posted_fence(), None);
+        for place in [min + 400, min + limit::RING_BYTES_MIN - 4] {
+            accept_at(&mut adapter, place);
+            adapter.submit(&Command::Fence(7)).unwrap();
+            adapter.ring_mut()[FENCE] += 70; // whatever stands there, an argument of the command itself for MIN 24
+            let before = adapter.ring().to_vec();
+            assert_eq!(adapter.run(9), run_of(End::Drained, 1));
+            let written = (0..before.len()).filter(|&at| adapter.ring()[at] != before[at]);
+            assert_eq!(written.collect::<Vec<_>>(), [fifo::STOP as usize], "MIN {min}, STOP {place}");
+        }
+    }
+}
+
+#[test]
+fn a_run_writes_words_3_and_6_alone_and_word_6_for_a_fence_alone() {
+    let mut adapter = started_at(28);
+    let written = |adapter: &mut Adapter, budget, end, count| {
+        let before = adapter.ring().to_vec();
+        assert_eq!(adapter.run(budget), run_of(end, count));
+        (0..before.len()).filter(|&at| adapter.ring()[at] != before[at]).collect::<Vec<_>>()
+    };
+    adapter.ring_mut()[FENCE] = 99; // a guest may write it: no run reads it
+    assert_eq!(written(&mut adapter, 9, End::Drained, 0), []);
+    adapter.submit(&fill(1, 0, 0, 1, 1)).unwrap();
+    adapter.submit(&Command::Escape { namespace: 0, data: b"no fence" }).unwrap();
+    assert_eq!(written(&mut adapter, 0, End::Spent, 0), []);
+    assert_eq!(written(&mut adapter, 9, End::Drained, 2), [3]);
+    append_all(&mut adapter, &[cmd::FENCE]);
+    assert_eq!(written(&mut adapter, 9, End::Waiting, 0), []);
+    append_all(&mut adapter, &[5]);
+    adapter.submit(&Command::Fence(6)).unwrap();
+    adapter.submit(&fill(1, 0, 0, 1, 1)).unwrap();
+    append_all(&mut adapter, &[20]);
+    assert_eq!(written(&mut adapter, 1, End::Spent, 1), [3, FENCE]);
+    assert_eq!(adapter.posted_fence(), Some(5));
+    assert_eq!(written(&mut adapter, 9, End::Fault(Fault::NotOffered), 2), [3, FENCE]);
+    assert_eq!(adapter.posted_fence(), Some(6), "what was posted before a fault stands");
+    assert!(!adapter.device().posts_fences(), "no ring is remembered");
+}
+
+#[test]
+fn the_accepted_min_decides_and_not_ring_word_0() {
+    for (accepted, now, posts) in [(28, 16, true), (28, 24, true), (28, 0, true), (24, 28, false), (16, u32::MAX, false)] {
+        let mut adapter = started_at(accepted);
+        accept_at(&mut adapter, 4_000);
+        adapter.submit(&Command::Fence(7)).unwrap();
+        adapter.ring_mut()[fifo::MIN as usize] = now;
+        adapter.ring_mut()[FENCE] = 99;
+        assert_eq!(adapter.run(9), run_of(End::Drained, 1));
+        assert_eq!(adapter.ring()[FENCE], if posts { 7 } else { 99 }, "accepted {accepted}, now {now}");
+        assert_eq!(adapter.device().posts_fences(), posts);
+    }
+}
+
+#[test]
+fn accepting_a_ring_posts_nothing() {
+    let mut adapter = started_at(28);
+    adapter.submit(&Command::Fence(7)).unwrap();
+    assert_eq!(adapter.run(9), run_of(End::Drained, 1));
+    adapter.ring_mut()[FENCE] = 99;
+    adapter.write(reg::CONFIG_DONE, 1).unwrap();
+    assert_eq!(adapter.posted_fence(), Some(99));
+    adapter.start_at(28, 32, 32).unwrap();
+    assert_eq!(adapter.posted_fence(), Some(7), "a start writes the last fence itself");
+    ring::reset(adapter.ring_mut(), limit::RING_START_FENCE);
+    assert_eq!(adapter.posted_fence(), Some(0), "a driver that knows of none writes 0");
+}
+
+#[test]
+fn the_smallest_memory_has_no_room_for_a_posted_fence() {
+    let mut adapter = Adapter::new(MEMORY, PIXELS).unwrap();
+    let refused = Error::RingRefused { min: 28, max: MEMORY, next_cmd: 28, stop: 28, memory: MEMORY };
+    assert_eq!(adapter.start_at(limit::RING_START_FENCE, 32, 32), Err(refused));
+    assert_eq!(adapter.start(32, 32), Ok(()));
+    assert_eq!(adapter.posted_fence(), None);
+    assert_eq!((ring::posted_fence(&[28; 6]), ring::posted_fence(&[28; 7]), ring::posted_fence(&[])), (None, Some(28), None));
 }
 
 // ---- starting

@@ -1,7 +1,7 @@
 //! What the answers say, and their numbers.
 
 use std::error::Error as _;
-use svga::{fifo, reg, ring, Device, End, Error, Fault, Memory, Run};
+use svga::{fifo, limit, reg, ring, Device, End, Error, Fault, Memory, Run};
 
 #[test]
 fn runs() {
@@ -52,7 +52,7 @@ fn refusals() {
 fn a_refused_ring_says_what_is_wrong() {
     let mut device = Device::new(10_260, 1).unwrap();
     let mut memory = vec![0; 2_565];
-    ring::reset(&mut memory);
+    ring::reset(&mut memory, limit::RING_START_MIN);
     for (place, value, said) in [
         (fifo::STOP, 17, "all four are multiples of 4"),
         (fifo::MIN, 12, "MIN is at least 16"),

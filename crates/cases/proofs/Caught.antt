@@ -24,12 +24,13 @@ use Rattle.execution.specs.Queue.{fresh, offer, try, act, play}
 use Rattle.execution.proofs.QueueLaws.{runs-ends, runs-exec, demand3}
 use Rattle.command.specs.Commands.{entry, kindOf, commands}
 use Rattle.command.proofs.Laws.{command-laws}
-use Rattle.effect.specs.Effects.{Scene, Machine, screenAfter, cursorAfter, fenceAfter, definedAfter}
+use Rattle.effect.specs.declared.Marks.{Marks}
+use Rattle.effect.specs.Effects.{Scene, Machine, screenAfter, cursorAfter, fenceAfter, postedAfter, definedAfter}
 use Rattle.effect.specs.Effects as E
 use Rattle.ring.specs.declared.Ring.{Ring}
 use Rattle.ring.specs.Acceptance.{nextOf}
 use Rattle.ring.specs.Waiting.{after, ahead, between, words, waiting, placed, nextGood}
-use Rattle.run.specs.Run.{knownOf, turnIn, stamped, left, runWords, fitting, runIn}
+use Rattle.run.specs.Run.{knownOf, turnIn, stamped, posting, postedIn, left, runWords, fitting, runIn}
 use Rattle.device.specs.declared.Condition.the-variants.{Running}
 use Rattle.device.specs.Device.{sizesGood, modeGood, conditionGood, definedGood, wellFormed}
 use Rattle.device_run.specs.Run.{lentGood, conditionAfter, busyAfter, runBy, runOf}
@@ -37,7 +38,7 @@ use Rattle.device_run.proofs.RunLaws.{run-by}
 use Rattle.adapter.specs.Picture.{Pictured, cursorOver, lengthsGood, pictureOf}
 use Rattle.cases.specs.Cases.{smallest}
 use Rattle.cases.specs.Impostors.{fence, answering, fenceIn, Claimed, RefusesEverything, AlwaysDrained, TouchesNothing, WholeRingAtOnce, CountFromTheAir, RightIsNotCaught}
-use Rattle.cases.specs.Impostors.{NotRefused, OneFence, shows, BareScreen}
+use Rattle.cases.specs.Impostors.{NotRefused, OneFence, OnePosted, shows, BareScreen}
 
 module _ (s : Scene) (m : Machine) where
   -- one command waits behind a FENCE's two appends, and so a run of budget b counts the smaller of b and 1
@@ -62,7 +63,7 @@ module _ (s : Scene) (m : Machine) where
   unfolding straight unless turnOf taken counted fed countAll entry kindOf commands E.done fenceAfter definedAfter
   touches-nothing other-before z f same d =
       let new : fenceIn z ≡ 7 = ap fenceIn (d .same) in
-      let old : fenceIn z ≡ m .marks .fence = ap (λ (x : Machine). x .marks .fence) same in
+      let old : fenceIn z ≡ m .marks .fence = ap (λ (x : Marks). x .fence) (same .2) in
       other-before (sym old ∙ new)
 
   pub whole-ring-at-once : WholeRingAtOnce s m
@@ -106,8 +107,12 @@ not-refused d l budget c =
     (run-number _ (c .place) budget (l .ring) _)
 
 pub one-fence : OneFence
-unfolding sizesGood modeGood conditionGood definedGood wellFormed lentGood runOf runBy conditionAfter busyAfter runIn runWords left stamped fitting placed nextGood turnIn after ahead between words waiting runs unless turnOf entry kindOf commands E.done screenAfter cursorAfter fenceAfter definedAfter
+unfolding sizesGood modeGood conditionGood definedGood wellFormed lentGood runOf runBy conditionAfter busyAfter runIn runWords left stamped posting postedIn fitting placed nextGood turnIn after ahead between words waiting runs unless turnOf entry kindOf commands E.done screenAfter cursorAfter fenceAfter postedAfter definedAfter
 one-fence rest framebuffer screen cursor r f s c = rw (r, f, s, c)
+
+pub one-posted : OnePosted
+unfolding sizesGood modeGood conditionGood definedGood wellFormed lentGood runOf runBy conditionAfter busyAfter runIn runWords left stamped posting postedIn fitting placed nextGood turnIn after ahead between words waiting runs unless turnOf entry kindOf commands E.done screenAfter cursorAfter fenceAfter postedAfter definedAfter
+one-posted rest framebuffer screen cursor r f s c = rw (r, f, s, c)
 
 -- the blue pixel of the cursor
 pub picture-shown : (rest : List ℕ) → length rest ≡ 4095 → pictureOf shows (0 ∷ []) (0xFF0000FF ∷ rest) (0 ∷ []) ≡ record { answer = 0; output = 255 ∷ [] }

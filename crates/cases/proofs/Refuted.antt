@@ -26,7 +26,7 @@ use Rattle.execution.specs.Queue.{fresh, offer, try, act, play}
 use Rattle.execution.proofs.QueueLaws.{play-ops, demand3, demand3-unique}
 use Rattle.command.specs.Commands.{entry, kindOf, commands}
 use Rattle.command.proofs.Laws.{command-laws}
-use Rattle.effect.specs.Effects.{Scene, scene, Machine, screenAfter, done}
+use Rattle.effect.specs.Effects.{Scene, scene, Machine, screenAfter, postedAfter, done}
 use Rattle.ring.specs.declared.Ring.{Ring}
 use Rattle.ring.specs.Acceptance.{stopOf, offsetUsable, boundsUsable, usable}
 use Rattle.ring.specs.Append.{movedOn, canAppend, appendTo, appendOf}
@@ -121,7 +121,7 @@ module _ (s : Scene) (m : Machine) where
 
 -- a fill was counted, and the screen is as before: one pixel, colour 5
 pub unpainted : (cursor : List ℕ) (f : Option Cause) (z : Line Machine) → z .machine .screen ≡ 0 ∷ []
-    → Claimed (scene 1 1 []) (machine (record { fence = 0; defined = Undefined }) (0 ∷ []) cursor)
+    → Claimed (scene 1 1 [] false) (machine (record { fence = 0; defined = Undefined }) (0 ∷ []) cursor 0)
     (answering (ran spent 1) (map append (2 ∷ 5 ∷ 0 ∷ 0 ∷ 1 ∷ 1 ∷ []) ++ run 1 ∷ [])) z f → ⊥
 unfolding straight unless turnOf taken counted fed countAll entry kindOf commands done screenAfter rowsFit filled paintedIf painted tabulate inArea inRect rasterOp
 unpainted cursor f z old d =
@@ -146,14 +146,20 @@ stop-left w₀ w old d =
 pub stop-forgotten : (w₀ w : World) (es : List Event) → stopOf (w .lent .ring) ≡ 24 → conditionOf (w .device) ≡ Running ring → Demand ring w₀ es w → ⊥
 stop-forgotten w₀ w es new old d = let k : 16 ≡ stopOf (w .lent .ring) = d .remembered ring old .2 in omega arith
 
+-- with MIN 28 FENCE 7 was counted, and ring word 6 is another: the run never posts
+pub never-posts : (w₀ w : World) → (getD (w .lent .ring) 6 0 ≡ 7 → ⊥)
+    → Demand (record { min = 7; max = 2567; stop = 7 }) w₀ (answering (ran spent 1) (fence 7 ++ run 1 ∷ [])) w → ⊥
+unfolding straight unless turnOf taken counted fed countAll entry kindOf commands done postedAfter
+never-posts w₀ w other d = other (d .word-6 (omega arith))
+
 -- what a list of operations answers from outside is one list of numbers, that of the queue
 pub one-answer : (w₀ : World) (os : List Op) (h : History) → Shown ring w₀ os h
     → map (λ (o : CallOutcome). o .answer ∷ o .values) (h .outcomes)
-    ≡ map numbersOf (play smallest (worldTurn w₀ ring) os (fresh (worldMachine w₀)) .events)
+    ≡ map numbersOf (play smallest (worldTurn w₀ ring) os (fresh (worldMachine ring w₀)) .events)
 one-answer w₀ os h x =
     let turn = worldTurn w₀ ring in
-    let m = worldMachine w₀ in
-    let right = demand3 (command-laws knownOf (done (sceneFor (w₀ .device) (w₀ .lent))) smallest (omega arith)) m (omega arith) os in
+    let m = worldMachine ring w₀ in
+    let right = demand3 (command-laws knownOf (done (sceneFor (w₀ .device) (w₀ .lent) ring)) smallest (omega arith)) m (omega arith) os in
     let asked = x .asked ∙ sym (play-ops smallest turn os (fresh m)) in
     x .answered ∙ ap (map numbersOf) (demand3-unique smallest turn m (x .demand .claim) right asked .0)
 

@@ -2,6 +2,7 @@
 -- The definitions are those that the contracts of `raster`, `pixel`, `command`, `run`, `cursor`, `register_read` and `adapter` cite.
 use Prim.Native.Nat.{ℕ}
 use mathlib.Core.Path.{_≡_}
+use mathlib.Core.Bool.{false}
 use mathlib.Core.List.{List, [], _∷_, _++_, map}
 use lib.IntN.{ℤ, pos, natAbs}
 use lib.Signed.{ltZ}
@@ -64,8 +65,8 @@ size head = sizeBy (kindIn head) head
 abbrev pub answer : List ℕ → ℕ
 answer waiting =
     answerNumber
-    (runs (turnOf smallest (table (scene 4 1 []))) 1
-    (record { words = waiting; machine = machine (record { fence = 0; defined = Undefined }) screen [] }) .answer)
+    (runs (turnOf smallest (table (scene 4 1 [] false))) 1
+    (record { words = waiting; machine = machine (record { fence = 0; defined = Undefined }) screen [] 0 }) .answer)
 
 -- The corner of case 9, X 4294967295 and hotspot 0.
 abbrev pub corner : ℤ

@@ -1,6 +1,6 @@
 -- Document 01, "How tight the promises are": "These impostors have to be caught". For each a list of operations with the answers that it gives, a device
 -- or a picture on which it breaks a claim or an equation that the code is held to.
-use Prim.Native.Nat.{ℕ, _≤_}
+use Prim.Native.Nat.{ℕ, _+_, _*_, _≤_}
 use mathlib.Core.Path.{_≡_}
 use mathlib.Core.Bool.{true, false}
 use mathlib.Core.Option.{Option}
@@ -60,10 +60,13 @@ module _ (s : Scene) (m : Machine) where
   abbrev pub AlwaysDrained : Type 0
   AlwaysDrained = Caught (fence 7 ++ run 1 ∷ []) (ran (ended Drained) 0) Anything
 
-  -- ".. or touches nothing": it gives the right answer and count, and screen, cursor and fence are the old ones. The last fence was another than 7: else
-  -- FENCE 7 itself leaves all of that as it was.
+  -- ".. or touches nothing": it gives the right answer and count, and screen, cursor image, defined cursor and fence are the old ones, whatever it writes
+  -- in ring word 6. The last fence was another than 7: else FENCE 7 itself leaves all of that as it was.
   abbrev pub TouchesNothing : Type 0
-  TouchesNothing = (m .marks .fence ≡ 7 → ⊥) → Caught (fence 7 ++ run 1 ∷ []) (ran spent 1) (λ z. z .machine ≡ m)
+  TouchesNothing =
+      (m .marks .fence ≡ 7 → ⊥)
+      → Caught (fence 7 ++ run 1 ∷ []) (ran spent 1)
+      (λ z. (z .machine .screen ≡ m .screen) × (z .machine .cursor ≡ m .cursor) × (z .machine .marks ≡ m .marks))
 
   -- "a first run of budget 1 that executes the whole ring while later runs only count": it gives the right answer and count, and the fence is 8.
   abbrev pub WholeRingAtOnce : Type 0
@@ -93,16 +96,20 @@ pub record CanRun (d : Device) (l : Lent) : Type 0 where
 abbrev pub NotRefused : Type 0
 NotRefused = (d : Device) (l : Lent) (budget : ℕ) → CanRun d l → runOf d l budget .answer ≤ 13
 
--- A device in the mode 4 by 1, enabled, and configured with the smallest ring; its last fence, and STOP in words.
-abbrev pub device : ℕ → ℕ → Device
-device fence stop = record {
-  sizes = record { memory = 10256; pixels = 4 };
+-- A device in the mode 4 by 1, enabled, and configured with a ring of the smallest size from this word on; its last fence, and STOP in words.
+abbrev pub deviceFrom : ℕ → ℕ → ℕ → Device
+deviceFrom min fence stop = record {
+  sizes = record { memory = 4 * (min + 2560); pixels = 4 };
   registers = setState (setMode freshRegisters 4 1) 0x90000000 true true;
   plane = record { shown = false; id = 0; x = 0; y = 0 };
   marks = record { fence = fence; defined = Undefined };
   busy = false;
-  condition = Running (record { min = 4; max = 2564; stop = stop });
+  condition = Running (record { min = min; max = min + 2560; stop = stop });
 }
+
+-- With MIN 16.
+abbrev pub device : ℕ → ℕ → Device
+device fence stop = deviceFrom 4 fence stop
 
 -- Its ring memory, with ring word 3: FENCE 7 and FENCE 8 wait behind the four ring words.
 abbrev pub twoFences : ℕ → List ℕ → List ℕ
@@ -116,6 +123,18 @@ OneFence =
     (rest framebuffer screen cursor : List ℕ) → length rest ≡ 2556 → length framebuffer ≡ 4 → length screen ≡ 4 → length cursor ≡ 4096
     → runOf (device 0 4) (lent (twoFences 16 rest) framebuffer screen cursor) 1
     ≡ record { answer = 2; count = 1; device = device 7 6; lent = lent (twoFences 24 rest) framebuffer screen cursor }
+
+-- With MIN 28: the last fence posted in ring word 6, and FENCE 7 and FENCE 8 wait behind it.
+abbrev pub postedFences : ℕ → ℕ → List ℕ → List ℕ
+postedFences stop posted rest = 28 ∷ 10268 ∷ 44 ∷ stop ∷ 0 ∷ 0 ∷ posted ∷ 30 ∷ 7 ∷ 30 ∷ 8 ∷ rest
+
+-- Document 02, P1: "When MIN is 28 or more, an executed FENCE also writes its number to word 6". The same run there, and ring word 6 is 7: an impostor
+-- that never posts leaves 0, one that posts the whole ring's fences 8. In `OneFence` MIN is 16, and word 6 stays: "below that, as today".
+abbrev pub OnePosted : Type 0
+OnePosted =
+    (rest framebuffer screen cursor : List ℕ) → length rest ≡ 2556 → length framebuffer ≡ 4 → length screen ≡ 4 → length cursor ≡ 4096
+    → runOf (deviceFrom 7 0 7) (lent (postedFences 28 0 rest) framebuffer screen cursor) 1
+    ≡ record { answer = 2; count = 1; device = deviceFrom 7 7 9; lent = lent (postedFences 36 7 rest) framebuffer screen cursor }
 
 -- ---- pictures
 

@@ -1,4 +1,4 @@
--- A run of a device: document 01, "One command out of the ring" and "Answer numbers".
+-- A run of a device: document 01, "One command out of the ring" and "Answer numbers"; document 02, P1.
 use Prim.Native.Nat.{ℕ, _/_}
 use mathlib.Core.Bool.{Bool, false, cond, _&&_}
 use mathlib.Core.List.{List}
@@ -15,7 +15,7 @@ use Rattle.ring.specs.declared.Ring.{Ring}
 use Rattle.ring.specs.Acceptance.{nextOf}
 use Rattle.ring.specs.Waiting.{waiting, carried}
 use Rattle.effect.specs.Effects.{Scene, scene, Machine}
-use Rattle.run.specs.Run.{RingOutcome, machine, table, runIn}
+use Rattle.run.specs.Run.{RingOutcome, machine, table, postsIn, postedIn, runIn}
 use Rattle.device.specs.declared.Condition.{Condition}
 use Rattle.device.specs.declared.Condition.the-variants.{Idle, Running, Faulted}
 use Rattle.device.specs.declared.Device.{Device}
@@ -108,21 +108,21 @@ settled d o = record {
   condition = conditionAfter (o .answer) (o .place);
 }
 
--- The machine of straight execution that a device and the lent memories hold.
-abbrev pub machineOf : Device → Lent → Machine
-machineOf d l = machine (d .marks) (l .screen) (l .cursor)
+-- The machine of straight execution that a device and the lent memories hold: ring word 6 is of it where the remembered MIN is 28 or more.
+abbrev pub machineOf : Device → Lent → Ring → Machine
+machineOf d l g = machine (d .marks) (l .screen) (l .cursor) (postedIn (postsIn g) (l .ring))
 
--- What a run does not change: the device's mode and the lent framebuffer.
-abbrev pub sceneFor : Device → Lent → Scene
-sceneFor d l = scene (widthOf d) (heightOf d) (l .framebuffer)
+-- What a run does not change: the device's mode, the lent framebuffer, and whether fences are posted in ring word 6.
+abbrev pub sceneFor : Device → Lent → Ring → Scene
+sceneFor d l g = scene (widthOf d) (heightOf d) (l .framebuffer) (postsIn g)
 
 -- The words that wait from the remembered STOP up to NEXT_CMD, with the machine that they work on.
 abbrev pub lineOf : Device → Lent → Ring → Line Machine
-lineOf d l g = record { words = waiting (l .ring) (g .min) (g .max) (g .stop) (nextOf (l .ring) / 4); machine = machineOf d l }
+lineOf d l g = record { words = waiting (l .ring) (g .min) (g .max) (g .stop) (nextOf (l .ring) / 4); machine = machineOf d l g }
 
 -- What a turn finds in the words that wait, by document 01's table.
 abbrev pub turnFor : Device → Lent → Ring → Machine → List ℕ → Turn Machine
-turnFor d l g = turnOf (carried (g .min) (g .max)) (table (sceneFor d l))
+turnFor d l g = turnOf (carried (g .min) (g .max)) (table (sceneFor d l g))
 
 -- What a run leaves of the lent memories: "framebuffer never".
 abbrev pub leftOf : Lent → RingOutcome → Lent
@@ -140,7 +140,7 @@ module _ (d : Device) (l : Lent) where
   unfoldable pub runBy : ℕ → Condition → RunOutcome
   runBy budget Idle = refusedRun 22
   runBy budget (Running g) =
-      ran d l (runIn (sceneFor d l) g budget (l .ring) (machineOf d l))
+      ran d l (runIn (sceneFor d l g) g budget (l .ring) (machineOf d l g))
   runBy budget (Faulted c) = refusedRun 23
 
   -- "A run checks 20, 22, 21, 24, 23 in that order". A device that no call can have made answers 22.

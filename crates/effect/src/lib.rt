@@ -1,7 +1,9 @@
-// What an executed command does: to the screen, to the fence and to the defined cursor. The cursor's pixels come from the ring and are the run's to copy.
+// What an executed command does: to the screen, to the fence and to the defined cursor. The cursor's pixels come from the ring and are the run's to copy; ring
+// word 6 is the run's to write.
 use command::Action;
 use cursor::Defined;
 ghost use mathlib.Core.Path.{_≡_};
+ghost use mathlib.Core.Bool.{Bool};
 ghost use Rattle.raster.specs.Painters.{filled, copied};
 ghost use Rattle.effect.specs.Effects.{scene, screenAfter, fenceAfter, definedAfter, marksAfter};
 
@@ -39,10 +41,10 @@ fn copy(
     raster::copy(screen, width, rows, from.x, from.y, area, rop);
 }
 
-// The screen's part of an action. The mode is width by rows.
+// The screen's part of an action, whether fences are posted or not. The mode is width by rows.
 // Rules out: a fill that reads the framebuffer; an update that paints by the raster operation of the command before.
 pub fn draw(action: Action, framebuffer: &[u32], screen: &mut [u32], width: u32, rows: u32)
-    ensures { λ _. ⌜ now (screen .exit) ≡ screenAfter (scene width rows (now (framebuffer .entry))) action (now (screen .entry)) ⌝ }
+    ensures { λ _. ⌜ ((posts : Bool) → now (screen .exit) ≡ screenAfter (scene width rows (now (framebuffer .entry)) posts) action (now (screen .entry))) ⌝ }
 {
     match action {
         Action::Update(area) => raster::update(framebuffer, screen, width, rows, area),

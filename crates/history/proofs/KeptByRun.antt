@@ -1,5 +1,5 @@
--- What a run keeps: a device stays well-formed, lent memories keep their lengths, every ring word but word 3 stays, and every cursor word that no
--- executed command fills; and no run that is not refused answers 23.
+-- What a run keeps: a device stays well-formed, lent memories keep their lengths, every ring word but words 3 and 6 stays, word 6 where no FENCE is
+-- posted, and every cursor word that no executed command fills; and no run that is not refused answers 23.
 -- Assumes nothing.
 use mathlib.Core.Path.{_≡_, refl, sym, ap, _∙_}
 use mathlib.Core.Bool.{Bool, true, false, _&&_, true≢false}
@@ -9,8 +9,8 @@ use Prim.Native.Nat.{ℕ, zero, suc, _+_, _-_, _*_, _/_, _≤_, _<_, max}
 use native.Mathlib.Nat.{mul-le-mul, mul-comm, le-div-iff-mul-le, le-max-left, le-max-right}
 use native.Mathlib.Omega.{arith}
 use lib.Dec.{eqb, ltb}
-use lib.ListN.{length, getD, take, drop, length-set, length-take, length-drop, length-append, List·getD-eq-default}
-use lib.Seq.{getD-set-other, getD-append-add, getD-drop}
+use lib.ListN.{length, getD, take, drop, length-take, length-drop, length-append, List·getD-eq-default}
+use lib.Seq.{getD-append-add, getD-drop}
 use borrow.Author.Tests.{eqb-true, ltb-true, ltb-false, eq-eqb, le-ltb}
 use borrow.Table.Steps.{cases}
 use Rattle.geometry.proofs.Tests.{both, by-cond}
@@ -42,10 +42,12 @@ use Rattle.command.proofs.Rules.{turn-found}
 use Rattle.effect.specs.declared.Marks.{Marks}
 use Rattle.effect.specs.Effects.{Scene, Machine, screenAfter, definedAfter, cursorAfter, marksAfter, done}
 use Rattle.run.specs.Turns.{Ready}
-use Rattle.run.specs.Run.{knownOf, table, turnIn, stamped, RingOutcome, left, runWords, fitting, runIn}
+use Rattle.run.specs.Run.{knownOf, table, turnIn, postsIn, postedIn, RingOutcome, left, runWords, fitting, runIn}
 use Rattle.run.proofs.Laws.{next-says}
+use Rattle.run.proofs.Fences.{runs-keep, runs-none, Tells, left-tells, still-tells}
 use Rattle.run.proofs.Found.{Found, found}
-use Rattle.run.proofs.RunLaws.{turn-kept}
+use Rattle.run.proofs.Posting.{clear-min, length-written, written-other}
+use Rattle.run.proofs.RunLaws.{fitting-placed, turn-kept}
 use Rattle.device.specs.declared.Condition.{Condition}
 use Rattle.device.specs.declared.Condition.the-variants.{Idle, Running, Faulted}
 use Rattle.device.specs.declared.Device.{Device}
@@ -79,16 +81,6 @@ no-exec : {S : Type 0} {e : End} {n : ℕ} {t : S} → ends e ≡ exec n t → �
 no-exec r = true≢false cc
 
 module _ {S : Type 0} (turn : S → List ℕ → Turn S) where
-  -- what each executed turn keeps of the machine, a run keeps
-  pub runs-keep : (Q : S → Type 0) → ((s t : S) (w : List ℕ) (n : ℕ) → turn s w ≡ exec n t → Q s → Q t) → (b : ℕ) (a : Line S) → Q (a .machine) → Q (runs turn b a .line .machine)
-  unfolding runs
-  runs-keep Q keeps zero a q = q
-  runs-keep Q keeps (suc b) a q = go (next turn a) refl (λ n s h. runs-keep Q keeps b (beyond a n s) h)
-    where
-      go : (t : Turn S) → next turn a ≡ t → ((n : ℕ) (s : S) → Q s → Q (runs turn b (beyond a n s) .line .machine)) → Q (runs turn (suc b) a .line .machine)
-      go (ends e) r ih = rw (runs-ends turn b a e r) q
-      go (exec n s) r ih = rw (runs-exec turn b a n s r) (ih n s (keeps (a .machine) s (a .words) n r q))
-
   pub runs-not-standing : (b : ℕ) (a : Line S) → NotStanding (runs turn b a .answer)
   unfolding runs
   runs-not-standing zero a = tt
@@ -108,25 +100,19 @@ module _ {S : Type 0} (turn : S → List ℕ → Turn S) where
       go (ends e) r ih = rw (runs-ends turn b a e r) (omega arith)
       go (exec n s) r ih = rw (runs-exec turn b a n s r) (omega (arith, ih n s))
 
-  -- a run that consumed nothing leaves the line
-  pub runs-nothing : (b : ℕ) (a : Line S) → runs turn b a .count ≡ 0 → runs turn b a .line ≡ a
+  -- where every turn ends, a run counts nothing
+  pub never-counts : ((s : S) (w : List ℕ) (n : ℕ) (t : S) → turn s w ≡ exec n t → ⊥) → (b : ℕ) (a : Line S) → runs turn b a .count ≡ 0
   unfolding runs
-  runs-nothing zero a z = refl
-  runs-nothing (suc b) a z = go (next turn a) refl
+  never-counts never zero a = refl
+  never-counts never (suc b) a = go (next turn a) refl
     where
-      go : (t : Turn S) → next turn a ≡ t → runs turn (suc b) a .line ≡ a
-      go (ends e) r = rw (runs-ends turn b a e r)
-      go (exec n s) r = let y : suc (runs turn b (beyond a n s) .count) ≡ 0 = rw (runs-exec turn b a n s r) at z in absurd (omega arith)
-
-  -- where every turn ends, a run leaves the line
-  pub runs-still : ((s : S) (w : List ℕ) (n : ℕ) (t : S) → turn s w ≡ exec n t → ⊥) → (b : ℕ) (a : Line S) → runs turn b a .line ≡ a
-  unfolding runs
-  runs-still never zero a = refl
-  runs-still never (suc b) a = go (next turn a) refl
-    where
-      go : (t : Turn S) → next turn a ≡ t → runs turn (suc b) a .line ≡ a
+      go : (t : Turn S) → next turn a ≡ t → runs turn (suc b) a .count ≡ 0
       go (ends e) r = rw (runs-ends turn b a e r)
       go (exec n s) r = absurd (never (a .machine) (a .words) n s r)
+
+  -- and leaves the line
+  pub runs-still : ((s : S) (w : List ℕ) (n : ℕ) (t : S) → turn s w ≡ exec n t → ⊥) → (b : ℕ) (a : Line S) → runs turn b a .line ≡ a
+  runs-still never b a = runs-none turn b a (never-counts never b a)
 
 -- ---- what an executed command keeps
 
@@ -348,9 +334,9 @@ module _ (s : Scene) (cap i : ℕ) where
 -- what a run leaves of the ring memory and of the remembered ring
 pub record Stays (g : Ring) (ring : List ℕ) (o : RingOutcome) : Type 0 where
   pub not-standing : NotStanding (o .answer)
-  -- "The run changes no other ring word, and none if it consumed nothing."
+  -- "A run then changes words 3 and 6 only", "and none if it consumed nothing"
   pub ring-length : length (o .ring) ≡ length ring
-  pub other-words : (i : ℕ) → (i ≡ 3 → ⊥) → getD (o .ring) i 0 ≡ getD ring i 0
+  pub other-words : (i : ℕ) → (i ≡ 3 → ⊥) → (postsIn g ≡ true → i ≡ 6 → ⊥) → getD (o .ring) i 0 ≡ getD ring i 0
   pub untouched : o .count ≡ 0 → o .ring ≡ ring
   -- MIN and MAX are those remembered, and STOP stays in the ring
   pub min : o .place .min ≡ g .min
@@ -390,11 +376,11 @@ module _ (s : Scene) (g : Ring) (budget : ℕ) (ring : List ℕ) (m : Machine) w
   stop-stays a b = ahead-in (g .min) (g .max) (g .stop) gone (gone-in a b)
 
   stays-words : Stays g ring (left g ring waits did)
-  unfolding left stamped
+  unfolding left
   stays-words = record {
     not-standing = runs-not-standing (turnIn s g (nextOf ring)) budget (record { words = waits; machine = m });
-    ring-length = cases (eqb (did .count) 0) (λ t. rw t) (λ f. rw f (length-set ring 3 _));
-    other-words = λ i h. cases (eqb (did .count) 0) (λ t. rw t) (λ f. rw f (getD-set-other ring 3 i _ 0 h));
+    ring-length = cases (eqb (did .count) 0) (λ t. rw t) (λ f. rw f (length-written (postsIn g) _ _ ring));
+    other-words = λ i h k. cases (eqb (did .count) 0) (λ t. rw t) (λ f. rw f (written-other (postsIn g) _ _ ring i h k));
     untouched = λ e. let t = eq-eqb (did .count) 0 e in rw t;
     min = refl;
     max = refl;
@@ -410,7 +396,7 @@ module _ (s : Scene) (g : Ring) (budget : ℕ) (ring : List ℕ) (m : Machine) w
       (λ f. rw f (record {
         not-standing = tt;
         ring-length = refl;
-        other-words = λ i h. refl;
+        other-words = λ i h k. refl;
         untouched = λ e. refl;
         min = refl;
         max = refl;
@@ -431,7 +417,7 @@ module _ (s : Scene) (g : Ring) (budget : ℕ) (ring : List ℕ) (m : Machine) w
   unfolding runIn runWords left
   run-nothing =
       cases (fitting g (length ring) (length (m .cursor)))
-      (λ t. rw t (λ z. ap (λ (a : Line Machine). a .machine) (runs-nothing (turnIn s g (nextOf ring)) budget (record { words = waits; machine = m }) z)))
+      (λ t. rw t (λ z. ap (λ (a : Line Machine). a .machine) (runs-none (turnIn s g (nextOf ring)) budget (record { words = waits; machine = m }) z)))
       (λ f. rw f (λ z. refl))
 
   -- and every run each cursor word that none of its commands fills
@@ -447,6 +433,27 @@ module _ (s : Scene) (g : Ring) (budget : ℕ) (ring : List ℕ) (m : Machine) w
       (λ f. rw t (λ l. ap (λ (x : Line Machine). getD (x .machine .cursor) i 0)
       (runs-still (turnIn s g (nextOf ring)) (never-next s g (nextOf ring) f) budget a))))
       (λ f. rw f (λ l. refl))
+
+  -- what it posts, by the commands that it executed
+  pub run-tells : s .posts ≡ postsIn g → m .posted ≡ postedIn (postsIn g) ring
+      → Tells s (carried (g .min) (g .max)) g ring (record { words = waits; machine = m }) (runIn s g budget ring m)
+  unfolding runIn runWords left
+  run-tells by-min start =
+      let cap = carried (g .min) (g .max) in
+      let a : Line Machine = record { words = waits; machine = m } in
+      cases (fitting g (length ring) (length (m .cursor)))
+      (λ t.
+      let p = placed-when g (length ring) (fitting-placed g _ _ t) in
+      cases (nextGood g (nextOf ring))
+      (λ y.
+      rw (t, turn-kept s g (nextOf ring) y)
+      (left-tells s cap g ring budget a by-min start (λ k. let low : 7 ≤ g .min = clear-min g refl k in omega arith)))
+      (λ f.
+      let never = never-next s g (nextOf ring) f in
+      let uncounted = never-counts (turnIn s g (nextOf ring)) never budget a in
+      let still = runs-still (turnIn s g (nextOf ring)) never budget a in
+      rw t (still-tells s cap g ring a (left g ring waits did) uncounted (stays-words .untouched uncounted) (ap (λ (x : Line Machine). x .machine) still))))
+      (λ f. rw f (still-tells s cap g ring a (record { answer = ended (Fault BadNext); count = 0; place = g; ring = ring; machine = m }) refl refl refl))
 
   -- a sound machine stays sound
   pub run-sound : (screen : List ℕ) → 0 < s .width → Sound (s .width * s .rows) screen m → Sound (s .width * s .rows) screen (runIn s g budget ring m .machine)
@@ -477,7 +484,7 @@ module _ (d : Device) (l : Lent) where
     pub running : d .condition ≡ Running g
 
   abbrev pub ranIn : ℕ → Ring → RingOutcome
-  ranIn budget g = runIn (sceneFor d l) g budget (l .ring) (machineOf d l)
+  ranIn budget g = runIn (sceneFor d l g) g budget (l .ring) (machineOf d l g)
 
   by-condition : (P : RunOutcome → Type 0) (budget : ℕ) (c : Condition) → d .condition ≡ c
       → ((a : ℕ) → Refusal a → P (refusedRun d l a))
@@ -510,7 +517,7 @@ module _ (d : Device) (l : Lent) where
 
   module _ (g : Ring) (o : Open g) where
     -- the machine that such a run starts with is sound
-    pub open-sound : Sound (widthOf d * heightOf d) (l .screen) (machineOf d l)
+    pub open-sound : Sound (widthOf d * heightOf d) (l .screen) (machineOf d l g)
     unfolding lentGood
     open-sound =
         let a = both (eqb (length (l .ring)) (memoryOf d / 4)) _ (o .lengths) in
@@ -521,10 +528,10 @@ module _ (d : Device) (l : Lent) where
     -- and so is the one that it leaves
     pub left-sound : (budget : ℕ) → Sound (widthOf d * heightOf d) (l .screen) (ranIn budget g .machine)
     left-sound budget =
-        run-sound (sceneFor d l) g budget (l .ring) (machineOf d l) (l .screen) (well-formed d (o .is-well-formed) .width-low) open-sound
+        run-sound (sceneFor d l g) g budget (l .ring) (machineOf d l g) (l .screen) (well-formed d (o .is-well-formed) .width-low) open-sound
 
     pub left-stays : (budget : ℕ) → Stays g (l .ring) (ranIn budget g)
-    left-stays budget = run-stays (sceneFor d l) g budget (l .ring) (machineOf d l)
+    left-stays budget = run-stays (sceneFor d l g) g budget (l .ring) (machineOf d l g)
 
     -- and the remembered ring good
     pub open-ring : placed g (memoryOf d / 4) ≡ true

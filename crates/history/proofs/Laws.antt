@@ -1,14 +1,15 @@
 -- Demand 3 on a device and its memories: every list of appends and runs, through the public calls.
 -- Assumes nothing.
-use mathlib.Core.Path.{_≡_, refl, ap₂}
+use mathlib.Core.Path.{_≡_, refl, sym, ap, ap₂, _∙_}
 use mathlib.Core.Bool.{true}
 use mathlib.Core.List.{List, [], _∷_, _++_, map}
 use Prim.Native.Nat.{ℕ, _+_, _≤_}
 use native.Mathlib.Omega.{arith}
 use native.Mathlib.Nat.{add-zero, zero-add}
 use lib.ListN.{length, length-append}
-use Rattle.execution.specs.Straight.{Turn}
-use Rattle.execution.specs.Claim.{Op, taken, fed}
+use borrow.Author.Tests.{le-leb}
+use Rattle.execution.specs.Straight.{Turn, Line}
+use Rattle.execution.specs.Claim.{Op, taken, fed, Demand3}
 use Rattle.execution.specs.Claim as C
 use Rattle.execution.specs.Queue.{Queue, Played, fresh, act, play}
 use Rattle.execution.proofs.QueueLaws.{play-ops, demand3}
@@ -17,12 +18,13 @@ use Rattle.ring.specs.declared.Ring.{Ring}
 use Rattle.ring.specs.Waiting.{carried}
 use Rattle.command.proofs.Laws.{command-laws}
 use Rattle.effect.specs.Effects.{Machine, done}
-use Rattle.run.specs.Run.{knownOf}
+use Rattle.run.specs.Run.{knownOf, postsIn}
+use Rattle.run.proofs.Posting.{posted-six}
 use Rattle.device_run.specs.Run.{sceneFor}
 use Rattle.device.specs.declared.Condition.the-variants.{Running}
 use Rattle.device.specs.Device.{conditionOf}
-use Rattle.history.specs.Calls.{World, CallOutcome, perform, performAll}
-use Rattle.history.specs.Demand.{isStart, worldTurn, worldMachine, callOf, numbersOf, Shown}
+use Rattle.history.specs.Calls.{World, CallOutcome, perform, History, performAll}
+use Rattle.history.specs.Demand.{isStart, worldTurn, worldMachine, worldLine, standsIn, callOf, numbersOf, Shown}
 use Rattle.history.specs.Replay.{opsOf, walk, walkOf, Replays}
 use Rattle.history.proofs.Places.{in-words}
 use Rattle.history.proofs.Steps.{Started, Shows, Step, shows-stands, shows-ring, shows-stop, append-step, run-step, started, start-shows}
@@ -58,10 +60,13 @@ module _ (g : Ring) (w₀ : World) where
 
 module _ (g : Ring) (w₀ : World) (e : isStart w₀ ≡ true) (q : conditionOf (w₀ .device) ≡ Running g) (os : List Op) where
   abbrev played : Played Machine
-  played = play (cap g w₀) (turn g w₀) os (fresh (worldMachine w₀))
+  played = play (cap g w₀) (turn g w₀) os (fresh (worldMachine g w₀))
 
-  led : Plays g w₀ 0 w₀ (fresh (worldMachine w₀)) os
-  led = plays g w₀ (started w₀ e) os 0 w₀ (fresh (worldMachine w₀)) (start-shows g w₀ e q)
+  abbrev history : History
+  history = performAll (map callOf os) w₀
+
+  led : Plays g w₀ 0 w₀ (fresh (worldMachine g w₀)) os
+  led = plays g w₀ (started w₀ e) os 0 w₀ (fresh (worldMachine g w₀)) (start-shows g w₀ e q)
 
   shown : Shows g w₀ (length (fed (played .events))) (performAll (map callOf os) w₀ .world) (played .queue)
   shown = rw zero-add at (led .shows)
@@ -70,18 +75,23 @@ module _ (g : Ring) (w₀ : World) (e : isStart w₀ ≡ true) (q : conditionOf 
   laws =
       let i = in-words (g .min) (g .max) (w₀ .lent .ring) (start-shows g w₀ e q .holds) in
       let h : 10 ≤ cap g w₀ = omega arith in
-      (h, command-laws knownOf (done (sceneFor (w₀ .device) (w₀ .lent))) (cap g w₀) h)
+      (h, command-laws knownOf (done (sceneFor (w₀ .device) (w₀ .lent) g)) (cap g w₀) h)
+
+  claimed : Demand3 (cap g w₀) (turn g w₀) (worldMachine g w₀) (played .events) (worldLine g (history .world)) (standsIn (conditionOf (history .world .device)))
+  claimed = rw (shown .line, shows-stands g w₀ shown) (demand3 (laws .1) (worldMachine g w₀) (omega (arith, laws .0)) os)
 
   -- DEMAND 3: from every start, every list of appends and runs through the public calls.
   pub demand-3 : Shown g w₀ os (performAll (map callOf os) w₀)
   demand-3 = record {
     events = played .events;
-    asked = play-ops (cap g w₀) (turn g w₀) os (fresh (worldMachine w₀));
+    asked = play-ops (cap g w₀) (turn g w₀) os (fresh (worldMachine g w₀));
     answered = led .same-answers;
     demand = record {
-      claim = rw (shown .line, shows-stands g w₀ shown) (demand3 (laws .1) (worldMachine w₀) (omega (arith, laws .0)) os);
+      claim = claimed;
       word-3 = shows-stop g w₀ shown;
       remembered = shows-ring g w₀ shown;
+      word-6 = λ h.
+          sym (posted-six (postsIn g) (history .world .lent .ring) (le-leb 7 (g .min) h)) ∙ ap (λ (l : Line Machine). l .machine .posted) (claimed .same);
     };
   }
 

@@ -1,14 +1,14 @@
 -- Demand 1: no call does harm, whatever the device, the lent memories and the calls before; and every history keeps a device well-formed.
 -- Assumes nothing.
-use mathlib.Core.Path.{_≡_, refl, sym, ap, _∙_}
+use mathlib.Core.Path.{_≡_, refl, sym, ap, subst, _∙_}
 use mathlib.Core.Bool.{Bool, true, false}
 use mathlib.Core.List.{List, [], _∷_}
-use mathlib.Core.Logic.{_⊎_, inl, inr}
+use mathlib.Core.Logic.{_⊎_, inl, inr, ⊎-elim}
 use Prim.Native.Nat.{ℕ, zero, suc, _*_, _≤_, _<_}
 use native.Mathlib.Omega.{arith}
 use lib.Dec.{eqb, ltb}
 use lib.ListN.{length, getD, List·getD-eq-default}
-use borrow.Author.Tests.{ltb-true, ltb-false, eq-eqb}
+use borrow.Author.Tests.{ltb-true, ltb-false, leb-true, eq-eqb}
 use borrow.Table.Steps.{cases}
 use Rattle.execution.specs.declared.End.the-variants.{Drained, Waiting, Fault}
 use Rattle.execution.specs.declared.Cause.the-variants.{NotOffered, BadOperand, TooLong, BadNext}
@@ -24,6 +24,7 @@ use Rattle.picture.specs.declared.Overlay.{Overlay}
 use Rattle.picture.specs.Picture.{composed}
 use Rattle.picture.proofs.Laws.{length-composed, beyond-stays}
 use Rattle.effect.specs.Effects.{Machine}
+use Rattle.run.specs.Run.{NoFence}
 use Rattle.device.specs.declared.Condition.{Condition}
 use Rattle.device.specs.declared.Condition.the-variants.{Idle, Running, Faulted}
 use Rattle.device.specs.declared.Device.{Device}
@@ -32,13 +33,14 @@ use Rattle.device.specs.Making.{madeOf}
 use Rattle.register_read.specs.Registers.{readBy, readOf}
 use Rattle.register_write.specs.Registers.{written}
 use Rattle.adapter.specs.Picture.{cursorOver, lengthsGood, pictureOf}
-use Rattle.device_run.specs.Run.{Lent, RunOutcome, conditionAfter, busyAfter, machineOf, sceneFor, refusedRun, ran, runOf}
+use Rattle.device_run.specs.Run.{Lent, RunOutcome, conditionAfter, busyAfter, machineOf, sceneFor, lineOf, turnFor, refusedRun, ran, runOf}
 use Rattle.device.proofs.Laws.{well-formed}
 use Rattle.register_write.proofs.Kept.{part-kept, sizes-kept, marks-kept, busy-kept}
 use Rattle.register_read.proofs.Readings.{value-kept}
 use Rattle.register_write.specs.Rules.{Why, no-register, read-only, bad-value, wrong-length, ring-refused, is-taken}
 use Rattle.register_write.proofs.Refusals.{why, ill-formed-write}
-use Rattle.history.proofs.KeptByRun.{NotStanding, Refusal, lent-length, disabled, not-configured, fault-stands, too-large, Open, ranIn, by-run, left-sound, left-stays, open-sound, refused-run, run-count, run-nothing, run-filled, beyond-rows}
+use Rattle.history.proofs.KeptByRun.{NotStanding, Refusal, lent-length, disabled, not-configured, fault-stands, too-large, Open, ranIn, by-run}
+use Rattle.history.proofs.KeptByRun.{left-sound, left-stays, open-sound, refused-run, run-count, run-nothing, run-filled, run-tells, beyond-rows}
 use Rattle.history.specs.Calls.{World, Call, make, write, read, run, append, picture, offscreen, fence, passed, lend, perform, performAll}
 use Rattle.history.specs.Harm.{row, among, SameBut, InMode, WriteChanges, ConditionChanges, RunChanges, AppendChanges, PictureChanges, OnlyNamed, Safe, Harmless}
 use Rattle.history.proofs.Starts.{writes-number, not-one, condition-kept, refused-stays}
@@ -156,6 +158,10 @@ condition-moves (ended Drained) g h e f = inl (h, refl, e, f)
 condition-moves (ended Waiting) g h e f = inl (h, refl, e, f)
 condition-moves (ended (Fault c)) g h e f = inr (c, refl, refl)
 
+-- one ring is remembered
+same-ring : (g h : Ring) → Running g ≡ Running h → g ≡ h
+same-ring g h e = cc
+
 busy-moves : (a : Answer) (b : Bool) → (busyAfter a b ≡ b) ⊎ (busyAfter a b ≡ false)
 unfolding busyAfter
 busy-moves spent b = inl refl
@@ -185,6 +191,7 @@ module _ (w : World) where
     busy = inl refl;
     condition = condition-same (d .condition) a;
     ring = all-same (m .ring);
+    word-6 = λ g e h. refl;
     screen = all-same (m .screen);
     cursor = all-same (m .cursor);
     framebuffer = refl;
@@ -199,15 +206,21 @@ module _ (w : World) where
       let s = left-stays d m g o budget in
       let before = open-sound d m g o in
       let after = left-sound d m g o budget in
-      let filled = run-filled (sceneFor d m) g budget (m .ring) (machineOf d m) in
-      let same = run-nothing (sceneFor d m) g budget (m .ring) (machineOf d m) in
+      let filled = run-filled (sceneFor d m g) g budget (m .ring) (machineOf d m g) in
+      let same = run-nothing (sceneFor d m g) g budget (m .ring) (machineOf d m g) in
       record {
         sizes = refl;
         registers = refl;
         plane = refl;
         busy = busy-moves (r .answer) (d .busy);
         condition = rw (o .running) (condition-moves (r .answer) g (r .place) (s .min) (s .max));
-        ring = record { same-length = s .ring-length; elsewhere = s .other-words };
+        ring = rw (o .running) (record {
+          same-length = s .ring-length;
+          elsewhere = λ i h. s .other-words i (λ e. h (inl e)) (λ t e. h (inr (e, leb-true 7 (g .min) t)));
+        });
+        word-6 = λ h e.
+            subst (λ (x : Ring). NoFence (turnFor d m x) (r .count) (lineOf d m x) → getD (r .ring) 6 0 ≡ getD (m .ring) 6 0)
+            (same-ring g h (sym (o .running) ∙ e)) (λ without. run-tells (sceneFor d m g) g budget (m .ring) (machineOf d m g) refl refl .0 without .0);
         screen = record { same-length = after .same-length; elsewhere = λ i h. after .beyond-mode i (not-below i (widthOf d * heightOf d) h) };
         cursor = rw (o .running) (record { same-length = after .cursor ∙ sym (before .cursor); elsewhere = λ i h. filled i (not-below i _ h) });
         framebuffer = refl;
@@ -343,8 +356,43 @@ run-bounded budget w =
     let m = w .lent in
     by-run d m (λ (o : RunOutcome). o .count ≤ budget) budget
     (λ a r. omega arith)
-    (λ g o. run-count (sceneFor d m) g budget (m .ring) (machineOf d m))
+    (λ g o. run-count (sceneFor d m g) g budget (m .ring) (machineOf d m g))
 
--- "The run changes no other ring word, and none if it consumed nothing."
+-- "A run then changes words 3 and 6 only", "and none if it consumed nothing".
 pub run-untouched : (budget : ℕ) (w : World) → getD (perform (run budget) w .values) 0 0 ≡ 0 → perform (run budget) w .world .lent .ring ≡ w .lent .ring
 run-untouched budget w z = ap (λ (l : Lent). l .ring) (run-changes w budget .nothing-consumed z .0)
+
+-- "When MIN is 28 or more, an executed FENCE also writes its number to word 6; below that, as today": where the remembered MIN is below 28, or the run
+-- executes no FENCE, ring word 6 is as before.
+pub word-6-stays : (budget : ℕ) (w : World) (g : Ring) → w .device .condition ≡ Running g
+    → (g .min < 7) ⊎ NoFence (turnFor (w .device) (w .lent) g) (getD (perform (run budget) w .values) 0 0) (lineOf (w .device) (w .lent) g)
+    → getD (perform (run budget) w .world .lent .ring) 6 0 ≡ getD (w .lent .ring) 6 0
+word-6-stays budget w g e =
+    let c = run-changes w budget in
+    ⊎-elim
+    (λ low. c .ring .elsewhere 6 (⊎-elim (λ z. omega arith) (λ z. let n : 7 ≤ g .min = rw e at (z .1) in omega arith)))
+    (c .word-6 g e)
+
+-- what a run posts, by the commands that it counted
+abbrev Told : World → Ring → RunOutcome → Type 0
+Told w g r =
+    let Without = NoFence (turnFor (w .device) (w .lent) g) (r .count) (lineOf (w .device) (w .lent) g) in
+    (Without → (getD (r .lent .ring) 6 0 ≡ getD (w .lent .ring) 6 0) × (r .device .marks .fence ≡ w .device .marks .fence))
+    × (7 ≤ g .min → (¬ Without) → getD (r .lent .ring) 6 0 ≡ r .device .marks .fence)
+
+-- "Boards poll ring word 6 for the last fence instead of asking us": if no FENCE is among the commands that a run counted, word 6 and the fence that the
+-- device tells are as before; if one is, and the remembered MIN is 28 or more, word 6 is that fence.
+pub word-6-tells : (budget : ℕ) (w : World) (g : Ring) → w .device .condition ≡ Running g
+    → (let z = perform (run budget) w in
+    let Without = NoFence (turnFor (w .device) (w .lent) g) (getD (z .values) 0 0) (lineOf (w .device) (w .lent) g) in
+    (Without → (getD (z .world .lent .ring) 6 0 ≡ getD (w .lent .ring) 6 0) × (z .world .device .marks .fence ≡ w .device .marks .fence))
+    × (7 ≤ g .min → (¬ Without) → getD (z .world .lent .ring) 6 0 ≡ z .world .device .marks .fence))
+unfolding perform
+word-6-tells budget w g e =
+    let d = w .device in
+    let m = w .lent in
+    by-run d m (Told w g) budget
+    (λ a r. (λ without. (refl, refl), λ low with-one. absurd (with-one (λ j l. absurd (omega arith)))))
+    (λ h o.
+    subst (λ (x : Ring). Told w x (ran d m (ranIn d m budget h))) (same-ring h g (sym (o .running) ∙ e))
+    (run-tells (sceneFor d m h) h budget (m .ring) (machineOf d m h) refl refl))

@@ -1,20 +1,23 @@
 -- Places in the ring some words on, and the ring memory once STOP has passed some words.
 -- Assumes nothing.
 use mathlib.Core.Path.{_≡_, refl, sym, ap, ap₂, _∙_}
-use mathlib.Core.Bool.{true, cond}
+use mathlib.Core.Bool.{Bool, true, cond}
 use mathlib.Core.List.{List}
 use Prim.Native.Nat.{ℕ, zero, suc, _+_, _*_, _/_, _%_, _≤_, _<_}
 use native.Mathlib.Omega.{arith}
 use native.Mathlib.Nat.{zero-add, suc-add}
 use lib.Dec.{eqb}
-use lib.ListN.{length, getD, set, drop, length-set}
-use lib.Seq.{getD-set-same, getD-set-other}
+use lib.ListN.{length, getD, drop}
+use lib.Seq.{getD-set-same}
 use borrow.Author.Tests.{eqb-true}
 use borrow.Table.Steps.{cases}
 use Rattle.ring.specs.Acceptance.{minOf, maxOf, nextOf, stopOf, usable}
 use Rattle.ring.specs.Waiting.{after, ahead, between, waiting}
 use Rattle.ring.proofs.Laws.{usable-when, when-usable}
 use Rattle.ring.proofs.WaitingLaws.{InRing, after-in, ahead-in, ahead-zero, ahead-after, between-carried, words-left-written}
+use Rattle.run.specs.Run.{stamped, posting}
+use Rattle.run.specs.Turns.{Clear}
+use Rattle.run.proofs.Posting.{length-posting, length-written, written-other, posting-waits}
 use Rattle.history.specs.Demand.{wordsOn}
 
 -- ---- words on
@@ -86,66 +89,81 @@ module _ (lo hi : ℕ) (ring : List ℕ) (h : Holds lo hi ring) (k : ℕ) (part 
   abbrev to : ℕ
   to = ahead lo hi (stopOf ring / 4) k
 
-  abbrev stamp : List ℕ
-  stamp = set ring 3 (to * 4)
-
   pub held-in : InRing lo hi (stopOf ring / 4) k
   held-in =
       let i = in-words lo hi ring h in
       let c = between-carried lo hi (stopOf ring / 4) (nextOf ring / 4) (i .stop-from) (i .stop-below) (i .next-from) (i .next-below) in
       record { from = i .stop-from; below = i .stop-below; held = omega arith }
 
-  other : (i : ℕ) → i < 3 → getD stamp i 0 ≡ getD ring i 0
-  other i l = getD-set-other ring 3 i (to * 4) 0 (λ e. let u : i ≡ 3 = e in omega arith)
+  -- with this number posted, where fences are
+  module _ (posts : Bool) (number : ℕ) (clear : Clear posts lo) where
+    abbrev posted : List ℕ
+    posted = posting posts number ring
 
-  stamp-stop : stopOf stamp ≡ 4 * to
-  stamp-stop = let u = usable-when ring (h .good) in getD-set-same ring 3 (to * 4) 0 (omega arith) ∙ omega arith
+    abbrev stamp : List ℕ
+    stamp = stamped to posted
 
-  stamp-holds : Holds lo hi stamp
-  stamp-holds =
-      let u = usable-when ring (h .good) in
-      let l = h .low in
-      let t = h .high in
-      let a = ahead-in lo hi (stopOf ring / 4) k held-in in
-      let n = length-set ring 3 (to * 4) in
-      let min : minOf stamp ≡ minOf ring = other 0 (omega arith) in
-      let max : maxOf stamp ≡ maxOf ring = other 1 (omega arith) in
-      let next : nextOf stamp ≡ nextOf ring = other 2 (omega arith) in
-      let stop = stamp-stop in
-      record {
-        good = when-usable stamp (record {
-          there = omega arith;
-          min-word = omega arith;
-          max-word = omega arith;
-          next-word = omega arith;
-          stop-word = omega arith;
-          low = omega arith;
-          fits = omega arith;
-          size = omega arith;
-          next-low = omega arith;
-          next-high = omega arith;
-          stop-low = omega arith;
-          stop-high = omega arith;
-        });
-        low = min ∙ l;
-        high = max ∙ t;
-      }
+    other : (i : ℕ) → i < 3 → getD stamp i 0 ≡ getD ring i 0
+    other i l =
+        written-other posts to number ring i (λ e. let u : i ≡ 3 = e in omega arith) (λ t e. let u : i ≡ 6 = e in omega arith)
 
-  stamp-waits : waiting stamp lo hi (stopOf stamp / 4) (nextOf stamp / 4) ≡ drop k (waiting ring lo hi (stopOf ring / 4) (nextOf ring / 4))
-  stamp-waits =
-      let i = in-words lo hi ring h in
-      let stop : stopOf stamp / 4 ≡ to = omega (arith, stamp-stop) in
-      let next : nextOf stamp / 4 ≡ nextOf ring / 4 = ap (λ x. x / 4) (other 2 (omega arith)) in
-      ap₂ (λ p q. waiting stamp lo hi p q) stop next
-      ∙ words-left-written ring lo hi (stopOf ring / 4) (nextOf ring / 4) k (to * 4) (i .head) (i .stop-from) (i .stop-below) (i .next-from) (i .next-below) part
+    stamp-stop : stopOf stamp ≡ 4 * to
+    unfolding stamped
+    stamp-stop =
+        let u = usable-when ring (h .good) in
+        let n = length-posting posts number ring in
+        getD-set-same posted 3 (to * 4) 0 (omega arith) ∙ omega arith
 
-  passed-some : Passed lo hi ring k stamp
-  passed-some = record { same-length = length-set ring 3 (to * 4); holds = stamp-holds; stop = stamp-stop; waits = stamp-waits }
+    stamp-holds : Holds lo hi stamp
+    stamp-holds =
+        let u = usable-when ring (h .good) in
+        let l = h .low in
+        let t = h .high in
+        let a = ahead-in lo hi (stopOf ring / 4) k held-in in
+        let n = length-written posts to number ring in
+        let min : minOf stamp ≡ minOf ring = other 0 (omega arith) in
+        let max : maxOf stamp ≡ maxOf ring = other 1 (omega arith) in
+        let next : nextOf stamp ≡ nextOf ring = other 2 (omega arith) in
+        let stop = stamp-stop in
+        record {
+          good = when-usable stamp (record {
+            there = omega arith;
+            min-word = omega arith;
+            max-word = omega arith;
+            next-word = omega arith;
+            stop-word = omega arith;
+            low = omega arith;
+            fits = omega arith;
+            size = omega arith;
+            next-low = omega arith;
+            next-high = omega arith;
+            stop-low = omega arith;
+            stop-high = omega arith;
+          });
+          low = min ∙ l;
+          high = max ∙ t;
+        }
 
--- the memory that a run leaves, which writes ring word 3 where it has executed a command
-pub passed-by : (lo hi : ℕ) (ring : List ℕ) (count k : ℕ) → Holds lo hi ring → k ≤ between lo hi (stopOf ring / 4) (nextOf ring / 4) → (count ≡ 0 → k ≡ 0)
-    → Passed lo hi ring k (cond (eqb count 0) ring (set ring 3 (ahead lo hi (stopOf ring / 4) k * 4)))
-passed-by lo hi ring count k h part nothing =
+    stamp-waits : waiting stamp lo hi (stopOf stamp / 4) (nextOf stamp / 4) ≡ drop k (waiting ring lo hi (stopOf ring / 4) (nextOf ring / 4))
+    unfolding stamped
+    stamp-waits =
+        let i = in-words lo hi ring h in
+        let from = stopOf ring / 4 in
+        let up-to = nextOf ring / 4 in
+        let stop : stopOf stamp / 4 ≡ to = omega (arith, stamp-stop) in
+        let next : nextOf stamp / 4 ≡ up-to = ap (λ x. x / 4) (other 2 (omega arith)) in
+        ap₂ (λ p q. waiting stamp lo hi p q) stop next
+        ∙ words-left-written posted lo hi from up-to k (to * 4) (i .head) (i .stop-from) (i .stop-below) (i .next-from) (i .next-below) part
+        ∙ ap (drop k) (posting-waits posts number ring lo hi from up-to clear (i .stop-from) (i .stop-below))
+
+    passed-some : Passed lo hi ring k stamp
+    passed-some = record { same-length = length-written posts to number ring; holds = stamp-holds; stop = stamp-stop; waits = stamp-waits }
+
+-- the memory that a run leaves, which writes ring words 3 and, where fences are posted, 6, if it has executed a command
+pub passed-by : (lo hi : ℕ) (ring : List ℕ) (count k : ℕ) (posts : Bool) (number : ℕ) → Holds lo hi ring
+    → k ≤ between lo hi (stopOf ring / 4) (nextOf ring / 4) → (count ≡ 0 → k ≡ 0) → Clear posts lo
+    → Passed lo hi ring k (cond (eqb count 0) ring (stamped (ahead lo hi (stopOf ring / 4) k) (posting posts number ring)))
+passed-by lo hi ring count k posts number h part nothing clear =
     cases (eqb count 0)
     (λ e. rw (e, nothing (eqb-true _ _ e)) (passed-none lo hi ring h))
-    (λ e. rw e (passed-some lo hi ring h k part))
+    (λ e. rw e (passed-some lo hi ring h k part posts number clear))

@@ -8,14 +8,17 @@ use Prim.Native.Nat.{ℕ}
 use native.Mathlib.Omega.{arith}
 use lib.ListN.{getD, set}
 use Rattle.execution.specs.declared.Cause.the-variants.{NotOffered}
+use Rattle.execution.specs.Straight.{straight}
 use Rattle.execution.specs.Table.{unless, turnOf}
 use Rattle.ring.specs.declared.Ring.{Ring}
 use Rattle.ring.specs.Waiting.{after, between, words, waiting}
 use Rattle.register.specs.declared.Writable.the-variants.{Width}
 use Rattle.register.specs.Numbers.{numbers, registerOf}
 use Rattle.cursor.specs.Plane.{shapeGood}
+use Rattle.command.specs.declared.Kind.the-variants.{Fence, Escape}
 use Rattle.command.specs.Commands.{entry, kindOf, commands}
 use Rattle.effect.specs.declared.Marks.{Marks}
+use Rattle.run.specs.Run.{NoFence}
 use Rattle.device.specs.declared.Registers.{Registers}
 use Rattle.device.specs.declared.Plane.{Plane}
 use Rattle.device.specs.declared.Condition.the-variants.{Idle, Running, Faulted}
@@ -64,6 +67,19 @@ lending l = record { device = before .device; lent = l; output = two }
 
 abbrev showing : List ℕ → World
 showing output = record { device = before .device; lent = memories; output = output }
+
+-- MIN 28, and an ESCAPE of no bytes waits in the ring
+abbrev behind : Ring
+behind = record { min = 7; max = 24; stop = 7 }
+
+abbrev escapeWords : List ℕ
+escapeWords = 28 ∷ 96 ∷ 40 ∷ 28 ∷ 0 ∷ 0 ∷ 0 ∷ 33 ∷ 0 ∷ 0 ∷ []
+
+abbrev escaping : World
+escaping = record { device = withCondition (before .device) (Running behind); lent = withRing memories escapeWords; output = two }
+
+abbrev postingIn : ℕ → World
+postingIn number = record { device = escaping .device; lent = withRing memories (set escapeWords 6 number); output = two }
 
 -- ---- answers and words
 
@@ -116,7 +132,24 @@ one-too-far h = let z : _≡_ {A = ℕ} 9 0 = h .cursor .elsewhere 1 (λ e. omeg
 
 -- a run overwrites the command that it executed, whatever it answers and counts
 pub run-overwrites : (a k : ℕ) → RunChanges a k before (lending (withRing memories (set ringWords 4 0))) → ⊥
-run-overwrites a k h = let z : _≡_ {A = ℕ} 0 22 = h .ring .elsewhere 4 (λ e. omega arith) in omega arith
+run-overwrites a k h = let z : _≡_ {A = ℕ} 0 22 = h .ring .elsewhere 4 (⊎-elim (λ e. omega arith) (λ e. omega (arith, e .0))) in omega arith
+
+-- a run posts a fence in ring word 6, which is a word of the ring where MIN is 16
+pub run-posts-low : (a k : ℕ) → RunChanges a k before (lending (withRing memories (set ringWords 6 9))) → ⊥
+run-posts-low a k h =
+    let z : _≡_ {A = ℕ} 9 0 = h .ring .elsewhere 6 (⊎-elim (λ e. omega arith) (λ e. omega (arith, e .1))) in omega arith
+
+no-fence : NoFence (turnFor (escaping .device) (escaping .lent) behind) 1 (lineOf (escaping .device) (escaping .lent) behind)
+unfolding straight kindOf waiting words between after
+no-fence j first e =
+    let zero : j ≡ 0 = omega arith in
+    let same : Escape ≡ Fence = rw zero at e in
+    let n : _≡_ {A = ℕ} 0 1 = cc in
+    omega arith
+
+-- a run that executed an ESCAPE alone writes ring word 6, though MIN is 28
+pub escape-posts : (a : ℕ) → RunChanges a 1 escaping (postingIn 9) → ⊥
+escape-posts a h = let z : _≡_ {A = ℕ} 9 0 = h .word-6 behind refl no-fence in omega arith
 
 -- a run paints behind the mode
 pub run-paints : (a k : ℕ) → RunChanges a k before (lending (lent ringWords two (0 ∷ 9 ∷ []) two)) → ⊥
@@ -153,6 +186,10 @@ run-faults k h =
 -- a run that consumed nothing stores a fence
 pub nothing-fences : (a : ℕ) → RunChanges a 0 before (device (fenced 9)) → ⊥
 nothing-fences a h = let z : _≡_ {A = ℕ} 9 0 = ap (λ (m : Marks). m .fence) (h .nothing-consumed refl .1) in omega arith
+
+-- a run that consumed nothing writes ring word 6, though MIN is 28
+pub nothing-posts : (a : ℕ) → RunChanges a 0 escaping (postingIn 9) → ⊥
+nothing-posts a h = let z : _≡_ {A = ℕ} 9 0 = ap (λ (l : Lent). getD (l .ring) 6 0) (h .nothing-consumed refl .0) in omega arith
 
 -- ---- the other calls
 

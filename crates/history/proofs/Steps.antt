@@ -1,7 +1,7 @@
 -- A device with its memories shows a queue: an append and a run of the one are those of the other.
 -- Assumes nothing.
 use mathlib.Core.Path.{_≡_, refl, sym, ap, subst, _∙_}
-use mathlib.Core.Bool.{true, false, true≢false}
+use mathlib.Core.Bool.{true, false, cond, true≢false}
 use mathlib.Core.List.{List, [], _∷_, _++_}
 use mathlib.Core.Option.{Option, none, some}
 use Prim.Native.Nat.{ℕ, _+_, _-_, _*_, _/_, _%_, _≤_}
@@ -26,11 +26,11 @@ use Rattle.ring.specs.Append.{canAppend, appendTo, appendOf}
 use Rattle.ring.specs.Waiting.{ahead, between, words, waiting, carried, placed, nextGood}
 use Rattle.ring.proofs.Laws.{usable-when, when-placed}
 use Rattle.ring.proofs.WaitingLaws.{length-waiting}
-use Rattle.ring.proofs.AppendLaws.{append-refused, length-append-to, append-keeps, append-waits, append-full}
+use Rattle.ring.proofs.AppendLaws.{append-refused, length-append-to, append-elsewhere, append-keeps, append-waits, append-full}
 use Rattle.command.proofs.Laws.{command-laws}
 use Rattle.effect.specs.Effects.{Scene, scene, Machine, done}
 use Rattle.run.specs.Run as R
-use Rattle.run.specs.Run.{knownOf, table, stamped, left, runWords, fitting, runIn}
+use Rattle.run.specs.Run.{knownOf, table, stamped, postsIn, posting, postedIn, left, runWords, fitting, runIn}
 use Rattle.device.specs.declared.Device.{Device}
 use Rattle.device.specs.declared.Condition.{Condition}
 use Rattle.device.specs.declared.Condition.the-variants.{Running, Faulted}
@@ -39,6 +39,8 @@ use Rattle.device_run.specs.Run.{Lent, withRing, RunOutcome, lentGood, conditio
 use Rattle.device.proofs.Laws.{well-formed}
 use Rattle.history.specs.Calls.{World, CallOutcome, append, run, perform}
 use Rattle.history.specs.Demand.{ringAtStart, isStart, worldTurn, worldWords, worldMachine, worldLine, standsIn, wordsOn, numbersOf}
+use Rattle.run.proofs.Fences.{left-posted}
+use Rattle.run.proofs.Posting.{clear-min}
 use Rattle.run.proofs.RunLaws.{turn-kept}
 use Rattle.history.proofs.Runs.{Leaves, run-leaves}
 use Rattle.history.proofs.KeptByRun.{Sound, sound-exec}
@@ -119,7 +121,7 @@ module _ (g : Ring) (w₀ : World) where
     pub registers : w .device .registers ≡ w₀ .device .registers
     pub framebuffer : w .lent .framebuffer ≡ w₀ .lent .framebuffer
     pub ring-length : length (w .lent .ring) ≡ memoryOf (w₀ .device) / 4
-    pub sound : Right (worldMachine w)
+    pub sound : Right (worldMachine g w)
     pub holds : Holds (g .min) (g .max) (w .lent .ring)
     pub line : worldLine g w ≡ q .line
     pub condition : conditionOf (w .device) ≡ conditionFor (q .stands) (stopAt g (stopOf (w .lent .ring) / 4))
@@ -176,6 +178,15 @@ module _ (g : Ring) (w₀ : World) where
         cases (canAppend ring) (λ t. t)
         (λ f. absurd (eqb-false _ _ e (sym (ap length same-words) ∙ append-full ring (g .min) (g .max) (stopOf ring / 4) low high refl (s .holds .good) .0 f)))
 
+    -- an append leaves what is posted: NEXT_CMD is behind word 6 where fences are
+    append-posted : (x : ℕ) → postedIn (postsIn g) (appendTo ring x) ≡ postedIn (postsIn g) ring
+    unfolding postedIn
+    append-posted x =
+        let i = in-words (g .min) (g .max) ring (s .holds) in
+        cases (postsIn g)
+        (λ t. let c = clear-min g refl t in rw t (append-elsewhere ring x 6 (λ e. omega arith) (λ e. omega arith)))
+        (λ t. rw t)
+
     appended-shows : (x : ℕ) → canAppend ring ≡ true
         → Shows (k + 1) (record { device = w .device; lent = withRing (w .lent) (appendTo ring x); output = w .output }) (record { line = more (q .line) (x ∷ []); stands = q .stands })
     appended-shows x e =
@@ -183,14 +194,16 @@ module _ (g : Ring) (w₀ : World) where
         let same = a .2 in
         let words : worldWords g (record { device = w .device; lent = withRing (w .lent) (appendTo ring x); output = w .output }) ≡ q .line .words ++ (x ∷ []) =
         rw same (append-waits ring (g .min) (g .max) (stopOf ring / 4) low high refl x e ∙ ap (λ (l : List ℕ). l ++ (x ∷ [])) same-words) in
+        let machine : worldMachine g (record { device = w .device; lent = withRing (w .lent) (appendTo ring x); output = w .output }) ≡ worldMachine g w =
+        λ i. R.machine (w .device .marks) (w .lent .screen) (w .lent .cursor) (append-posted x i) in
         record {
           sizes = s .sizes;
           registers = s .registers;
           framebuffer = s .framebuffer;
           ring-length = length-append-to ring x ∙ s .ring-length;
-          sound = s .sound;
+          sound = subst Right (sym machine) (s .sound);
           holds = record { good = a .3 ∙ s .holds .good; low = a .0 ∙ s .holds .low; high = a .1 ∙ s .holds .high };
-          line = λ i. record { words = words i; machine = s .line i .machine };
+          line = λ i. record { words = words i; machine = (machine ∙ ap (λ (l : Line Machine). l .machine) (s .line)) i };
           condition = rw same (s .condition);
           gone = s .gone;
           all = rw length-append (omega (arith, s .all));
@@ -250,7 +263,7 @@ module _ (g : Ring) (w₀ : World) where
         (rw (s .registers) (st .config)) (rw (s .registers) (st .enable)) (rw (s .registers, s .sizes) (st .fits-screen))
         ∙ ap (runBy (w .device) (w .lent) b) (s .condition)
 
-    fits-now : fitting now (length memory) (length (worldMachine w .cursor)) ≡ true
+    fits-now : fitting now (length memory) (length (worldMachine g w .cursor)) ≡ true
     unfolding fitting
     fits-now =
         let i = places in
@@ -267,14 +280,14 @@ module _ (g : Ring) (w₀ : World) where
           lt-ltb (nextOf memory / 4) (g .max) (i .next-below),
         )
 
-    same-scene : sceneFor (w .device) (w .lent) ≡ sceneFor (w₀ .device) (w₀ .lent)
-    same-scene = λ i. scene (s .registers i .width) (s .registers i .height) (s .framebuffer i)
+    same-scene : sceneFor (w .device) (w .lent) g ≡ sceneFor (w₀ .device) (w₀ .lent) g
+    same-scene = λ i. scene (s .registers i .width) (s .registers i .height) (s .framebuffer i) (postsIn g)
 
     -- the device's run is the queue's
-    runs-so : (b : ℕ) → runIn (sceneFor (w .device) (w .lent)) now b memory (worldMachine w) ≡ left now memory (q .line .words) (runs turn b (q .line))
+    runs-so : (b : ℕ) → runIn (sceneFor (w .device) (w .lent) g) now b memory (worldMachine g w) ≡ left now memory (q .line .words) (runs turn b (q .line))
     runs-so b =
-        ap (λ c. runIn c now b memory (worldMachine w)) same-scene
-        ∙ run-in (sceneFor (w₀ .device) (w₀ .lent)) now b memory (worldMachine w) fits-now next-now
+        ap (λ c. runIn c now b memory (worldMachine g w)) same-scene
+        ∙ run-in (sceneFor (w₀ .device) (w₀ .lent) g) now b memory (worldMachine g w) fits-now next-now
         ∙ ap (λ (l : Line Machine). left now memory (l .words) (runs turn b l)) (s .line)
 
     abbrev after : RunOutcome → World
@@ -285,9 +298,10 @@ module _ (g : Ring) (w₀ : World) where
     }
 
     left-shows : (r : LineRun Machine) → Leaves Right (q .line) r
+        → postedIn (postsIn g) (left now memory (q .line .words) r .ring) ≡ r .line .machine .posted
         → Shows k (after (ran (w .device) (w .lent) (left now memory (q .line .words) r))) (settle r .queue)
-    unfolding left stamped
-    left-shows r l =
+    unfolding left
+    left-shows r l posted =
         let lo = g .min in
         let hi = g .max in
         let stop = stopOf memory / 4 in
@@ -297,16 +311,21 @@ module _ (g : Ring) (w₀ : World) where
         let short : length (r .line .words) ≡ length (q .line .words) - l .gone = ap length (l .words) ∙ length-drop (l .gone) (q .line .words) in
         let many : length (q .line .words) - length (r .line .words) ≡ l .gone = omega (arith, l .part) in
         let part : l .gone ≤ between lo hi stop (nextOf memory / 4) = omega (arith, l .part) in
-        let p = passed-by lo hi memory (r .count) (l .gone) (s .holds) part (l .nothing) in
+        let p = passed-by lo hi memory (r .count) (l .gone) (postsIn g) (r .line .machine .posted) (s .holds) part (l .nothing) (clear-min g refl) in
         let at : stop ≡ wordsOn lo hi (g .stop) (s .gone) = omega (arith, s .word-3) in
+        let m = r .line .machine in
+        let to = cond (eqb (r .count) 0) memory (stamped (ahead lo hi stop (l .gone)) (posting (postsIn g) (m .posted) memory)) in
+        let there : postedIn (postsIn g) to ≡ m .posted = rw many at posted in
+        let same : R.machine (m .marks) (m .screen) (m .cursor) (postedIn (postsIn g) to) ≡ m =
+        λ i. R.machine (m .marks) (m .screen) (m .cursor) (there i) in
         rw many (record {
           sizes = s .sizes;
           registers = s .registers;
           framebuffer = s .framebuffer;
           ring-length = p .same-length ∙ s .ring-length;
-          sound = l .kept;
+          sound = subst Right (sym same) (l .kept);
           holds = p .holds;
-          line = λ i. record { words = (p .waits ∙ ap (drop (l .gone)) waits ∙ sym (l .words)) i; machine = r .line .machine };
+          line = λ i. record { words = (p .waits ∙ ap (drop (l .gone)) waits ∙ sym (l .words)) i; machine = same i };
           condition = condition-after (r .answer) (stopAt g (ahead lo hi stop (l .gone)))
               ∙ ap (λ x. conditionFor (met (r .answer)) (stopAt g x)) (omega (arith, p .stop));
           gone = s .gone + l .gone;
@@ -323,10 +342,16 @@ module _ (g : Ring) (w₀ : World) where
     outcome o = record { answer = o .answer; values = o .count ∷ []; world = after o }
 
     laws : Laws cap turn
-    laws = command-laws knownOf (done (sceneFor (w₀ .device) (w₀ .lent))) cap (omega (arith, places))
+    laws = command-laws knownOf (done (sceneFor (w₀ .device) (w₀ .lent) g)) cap (omega (arith, places))
 
     sound-line : Right (q .line .machine)
     sound-line = subst (λ (l : Line Machine). Right (l .machine)) (s .line) (s .sound)
+
+    -- the ring memory has what it posted
+    posted-now : (b : ℕ) → postedIn (postsIn g) (left now memory (q .line .words) (runs turn b (q .line)) .ring) ≡ runs turn b (q .line) .line .machine .posted
+    posted-now b =
+        left-posted (sceneFor (w₀ .device) (w₀ .lent) g) cap now memory b (q .line) refl (sym (ap (λ (l : Line Machine). l .machine .posted) (s .line)))
+        (λ t. let c = clear-min g refl t in omega (arith, places))
 
     run-by : (b : ℕ) (f : Option Cause) → q .stands ≡ f
         → Step k (C.run b) (outcome (runBy (w .device) (w .lent) b (conditionFor f now))) (try turn f b q)
@@ -336,10 +361,10 @@ module _ (g : Ring) (w₀ : World) where
         subst (λ (o : R.RingOutcome). Step k (C.run b) (outcome (ran (w .device) (w .lent) o)) (settle (runs turn b (q .line)))) (sym (runs-so b))
         (record {
           same-answers = refl;
-          shows =
-              rw add-zero
+          shows = rw add-zero
               (left-shows (runs turn b (q .line))
-              (run-leaves laws Right (sound-exec (sceneFor (w₀ .device) (w₀ .lent)) (w₀ .lent .screen) (st .wide) cap) b (q .line) sound-line));
+              (run-leaves laws Right (sound-exec (sceneFor (w₀ .device) (w₀ .lent) g) (w₀ .lent .screen) (st .wide) cap) b (q .line) sound-line)
+              (posted-now b));
         })
 
     pub run-step : (b : ℕ) → Step k (C.run b) (perform (run b) w) (act cap turn (C.run b) q)
@@ -420,7 +445,7 @@ waits-none ring lo hi p q e =
     let z : q - p ≡ 0 = omega arith in
     rw (le-leb p q (omega arith), z)
 
-pub start-shows : (g : Ring) (w₀ : World) → isStart w₀ ≡ true → conditionOf (w₀ .device) ≡ Running g → Shows g w₀ 0 w₀ (fresh (worldMachine w₀))
+pub start-shows : (g : Ring) (w₀ : World) → isStart w₀ ≡ true → conditionOf (w₀ .device) ≡ Running g → Shows g w₀ 0 w₀ (fresh (worldMachine g w₀))
 unfolding fresh wordsOn
 start-shows g w₀ e q =
     let t = tests w₀ e in
@@ -435,7 +460,7 @@ start-shows g w₀ e q =
       ring-length = lengths .0;
       sound = record { same-length = refl; beyond-mode = λ k l. refl; cursor = lengths .3; defined = well-formed d (t .there) .defined };
       holds = r .0;
-      line = λ i. record { words = waits-none (w₀ .lent .ring) (g .min) (g .max) _ _ (ap (λ x. x / 4) (sym (r .2))) i; machine = worldMachine w₀ };
+      line = λ i. record { words = waits-none (w₀ .lent .ring) (g .min) (g .max) _ _ (ap (λ x. x / 4) (sym (r .2))) i; machine = worldMachine g w₀ };
       condition = q ∙ (λ i. Running (stopAt g (stop i)));
       gone = 0;
       all = refl;

@@ -1,14 +1,14 @@
 -- Demand 3 on a device and its memories: document 01, "Straight execution".
-use Prim.Native.Nat.{ℕ, zero, suc, _-_, _*_, _/_}
+use Prim.Native.Nat.{ℕ, zero, suc, _-_, _*_, _/_, _≤_}
 use mathlib.Core.Path.{_≡_}
 use mathlib.Core.Bool.{Bool, false, _&&_}
 use mathlib.Core.List.{List, [], _∷_, map}
 use mathlib.Core.Option.{Option, none, some}
 use lib.Dec.{eqb}
-use lib.ListN.{length}
+use lib.ListN.{length, getD}
 use Rattle.execution.specs.declared.Cause.{Cause}
 use Rattle.execution.specs.Straight.{Turn, Line}
-use Rattle.execution.specs.Claim.{Op, Event, replyNumber, counted, fed, Demand3}
+use Rattle.execution.specs.Claim.{Op, Event, replyNumber, counted, fed, lineAfter, Demand3}
 use Rattle.execution.specs.Claim as C
 use Rattle.ring.specs.declared.Ring.{Ring}
 use Rattle.ring.specs.Acceptance.{minOf, maxOf, nextOf, stopOf, usable}
@@ -46,12 +46,13 @@ worldTurn w g = turnFor (w .device) (w .lent) g
 abbrev pub worldWords : Ring → World → List ℕ
 worldWords g w = waiting (w .lent .ring) (g .min) (g .max) (stopOf (w .lent .ring) / 4) (nextOf (w .lent .ring) / 4)
 
--- "Its state: the words left, screen, cursor image, defined cursor (none, or id, hotspot and size), fence."
-abbrev pub worldMachine : World → Machine
-worldMachine w = machineOf (w .device) (w .lent)
+-- "Its state: the words left, screen, cursor image, defined cursor (none, or id, hotspot and size), fence." Document 02, P1: "Demand 3 counts word 6 among
+-- the things equal to straight execution when MIN allows it."
+abbrev pub worldMachine : Ring → World → Machine
+worldMachine g w = machineOf (w .device) (w .lent) g
 
 abbrev pub worldLine : Ring → World → Line Machine
-worldLine g w = record { words = worldWords g w; machine = worldMachine w }
+worldLine g w = record { words = worldWords g w; machine = worldMachine g w }
 
 abbrev pub standsIn : Condition → Option Cause
 standsIn Idle = none
@@ -66,11 +67,13 @@ wordsOn lo hi p (suc n) = wordsOn lo hi (after lo hi p) n
 -- Demand 3, whole. From the start w₀ with the remembered ring g, the operations and answers es have led to w.
 pub record Demand (g : Ring) (w₀ : World) (es : List Event) (w : World) : Type 0 where
   -- the claim on straight execution, the words left, the machine, the fault and every answer
-  pub claim : Demand3 (carried (g .min) (g .max)) (worldTurn w₀ g) (worldMachine w₀) es (worldLine g w) (standsIn (conditionOf (w .device)))
+  pub claim : Demand3 (carried (g .min) (g .max)) (worldTurn w₀ g) (worldMachine g w₀) es (worldLine g w) (standsIn (conditionOf (w .device)))
   -- "ring word 3 has moved on by 4 for each word dropped, wrapping"
   pub word-3 : stopOf (w .lent .ring) ≡ 4 * wordsOn (g .min) (g .max) (g .stop) (length (fed es) - length (worldWords g w))
   -- and where no fault stands it is the STOP that the device remembers, with the start's MIN and MAX
   pub remembered : (h : Ring) → conditionOf (w .device) ≡ Running h → (h .min ≡ g .min) × (h .max ≡ g .max) × (4 * h .stop ≡ stopOf (w .lent .ring))
+  -- "Demand 3 counts word 6 among the things equal to straight execution when MIN allows it": 28 bytes, seven words
+  pub word-6 : 7 ≤ g .min → getD (w .lent .ring) 6 0 ≡ lineAfter (worldTurn w₀ g) (worldMachine g w₀) es .machine .posted
 
 -- "any list of appends, one word each by the published rule, and runs of any budget", as calls
 abbrev pub callOf : Op → Call

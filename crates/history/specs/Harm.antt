@@ -18,6 +18,7 @@ use Rattle.command.specs.declared.Action.{Action}
 use Rattle.command.specs.declared.Action.the-variants.{Update, Fill, Copy, Define, Fence, Nothing}
 use Rattle.command.specs.Commands.{entry, kindIn}
 use Rattle.effect.specs.Effects.{Machine}
+use Rattle.run.specs.Run.{NoFence}
 use Rattle.device.specs.declared.Condition.{Condition}
 use Rattle.device.specs.declared.Condition.the-variants.{Idle, Running, Faulted}
 use Rattle.device.specs.Device.{fresh, widthOf, heightOf}
@@ -101,16 +102,25 @@ cursorFilled w Idle k = 0
 cursorFilled w (Running g) k = largestCursor (turnFor (w .device) (w .lent) g) k (lineOf (w .device) (w .lent) g)
 cursorFilled w (Faulted c) k = 0
 
+-- Document 02, P1: "When MIN is 28 or more, an executed FENCE also writes its number to word 6; below that, as today." The remembered MIN, in words.
+abbrev pub Posts : Condition → Type 0
+Posts Idle = ⊥
+Posts (Running g) = 7 ≤ g .min
+Posts (Faulted c) = ⊥
+
 -- A run that answered a and consumed k commands: of the device the defined cursor, the fence, BUSY, and the remembered STOP or the fault; of the screen the
--- mode's pixels; of the cursor image what its commands fill. "ring word 3 is written. The run changes no other ring word, and none if it consumed
--- nothing." "framebuffer never".
+-- mode's pixels; of the cursor image what its commands fill. "A run then changes words 3 and 6 only", word 6 where MIN allows it, "and none if it
+-- consumed nothing". "framebuffer never".
 pub record RunChanges (a k : ℕ) (w z : World) : Type 0 where
   pub sizes : z .device .sizes ≡ w .device .sizes
   pub registers : z .device .registers ≡ w .device .registers
   pub plane : z .device .plane ≡ w .device .plane
   pub busy : (z .device .busy ≡ w .device .busy) ⊎ (z .device .busy ≡ false)
   pub condition : ConditionChanges (w .device .condition) a (z .device .condition)
-  pub ring : SameBut (λ i. i ≡ 3) (w .lent .ring) (z .lent .ring)
+  pub ring : SameBut (λ i. (i ≡ 3) ⊎ ((i ≡ 6) × Posts (w .device .condition))) (w .lent .ring) (z .lent .ring)
+  -- word 6 by an executed FENCE alone
+  pub word-6 : (g : Ring) → w .device .condition ≡ Running g → NoFence (turnFor (w .device) (w .lent) g) k (lineOf (w .device) (w .lent) g)
+      → getD (z .lent .ring) 6 0 ≡ getD (w .lent .ring) 6 0
   pub screen : SameBut (InMode w) (w .lent .screen) (z .lent .screen)
   pub cursor : SameBut (λ i. i < cursorFilled w (w .device .condition) k) (w .lent .cursor) (z .lent .cursor)
   pub framebuffer : z .lent .framebuffer ≡ w .lent .framebuffer

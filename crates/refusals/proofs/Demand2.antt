@@ -13,7 +13,7 @@ use mathlib.Core.Logic.{_↔_, _⊎_, inl, inr, ⊎-elim, Iff·trans}
 use Prim.Native.Nat.{ℕ, _*_, _≤_, _<_}
 use native.Mathlib.Omega.{arith}
 use lib.Dec.{eqb}
-use lib.ListN.{length}
+use lib.ListN.{length, getD}
 use borrow.Author.Tests.{eqb-true, eqb-false, leb-true, le-leb, lt-leb}
 use borrow.Table.Steps.{cases}
 use Rattle.geometry.proofs.Tests.{by-cond, not-both}
@@ -36,13 +36,14 @@ use Rattle.register.specs.Numbers.{registerOf}
 use Rattle.command.specs.declared.Action.{Action}
 use Rattle.command.proofs.Laws.{command-laws}
 use Rattle.effect.specs.Effects.{Machine, done}
-use Rattle.run.specs.Run.{knownOf, left, fitting, runIn}
+use Rattle.run.specs.Run.{knownOf, NoFence, left, fitting, runIn}
 use Rattle.device.specs.declared.Condition.{Condition}
 use Rattle.device.specs.declared.Condition.the-variants.{Faulted}
 use Rattle.device.specs.declared.Device.{Device}
 use Rattle.device.specs.Device.{pixelsOf, widthOf, heightOf, conditionOf, sizesGood, modeFits, wellFormed, withBusy, withCondition}
 use Rattle.device.specs.Making.{madeOf}
 use Rattle.register_read.specs.Answers.{Reading}
+use Rattle.adapter.specs.Fence.{fenceOf}
 use Rattle.adapter.specs.Picture.{pictureOf}
 use Rattle.register_read.specs.Registers.{readBy, readOf}
 use Rattle.register_write.specs.Registers.{written}
@@ -60,8 +61,8 @@ use Rattle.refusals.specs.Refusing.{Turn0, Turn10, HeadMissing, HeadBad,
 use Rattle.refusals.proofs.Reasons.{fails, sizes-good, ring-usable, not-usable, picture-lent, next-usable, next-unusable, ranged}
 use Rattle.refusals.proofs.Reasons.{end-number, stops-2, verdict-ends, run-stops, run-none, run-unusable, run-straight, fault-after, ring-carries}
 use Rattle.refusals.proofs.Reasons as Reasons
-use Rattle.refusals.proofs.Rules.{write-why, ended-taken, is-lent, not-lent, start, start-fits, start-ended, ran-leaves, ran-waits, leaves-one}
-use Rattle.refusals.proofs.Rules.{by-refusals, run-why}
+use Rattle.refusals.proofs.Rules.{write-why, ended-taken, is-lent, not-lent, start, start-fits, start-ended, ran-leaves, ran-posts, ran-waits}
+use Rattle.refusals.proofs.Rules.{leaves-one, leaves-six, by-refusals, run-why}
 use Rattle.refusals.proofs.Rules.{turn-why, finds-0, finds-10, finds-1, finds-11, finds-12, finds-command}
 
 not-zero : {a : ℕ} → isRefusal a ≡ true → a ≡ 0 → ⊥
@@ -171,7 +172,7 @@ cap g = carried (g .min) (g .max)
 module _ (d : Device) (l : Lent) (g : Ring) (m : Machine) (w : List ℕ) where
   -- what an action does to the machine
   abbrev does : Action → List ℕ → Machine → Machine
-  does = done (sceneFor d l)
+  does = done (sceneFor d l g)
 
   -- "NEXT_CMD = STOP: 0."
   pub turn-0 : (turnFor d l g m w ≡ ends Drained) ↔ Turn0 w
@@ -269,7 +270,7 @@ module _ (d : Device) (l : Lent) (budget : ℕ) where
   -- A run that starts, on the ring g.
   module _ (m : wellFormed d ≡ true) (g : Ring) (s : Starts d l g) where
     -- it is `run/Run.runIn`: what it leaves is said there
-    pub run-starts : runOf d l budget ≡ ran d l (runIn (sceneFor d l) g budget (l .ring) (machineOf d l))
+    pub run-starts : runOf d l budget ≡ ran d l (runIn (sceneFor d l g) g budget (l .ring) (machineOf d l g))
     run-starts = start d l m g budget s
 
     -- inside: the ring lies in its memory and carries the longest head, so that the laws of straight execution hold of it
@@ -280,13 +281,13 @@ module _ (d : Device) (l : Lent) (budget : ℕ) where
     carries = ring-carries d m g (s .1) (s .4)
 
     laws : Laws (cap g) (turnFor d l g)
-    laws = command-laws knownOf (done (sceneFor d l)) (cap g) carries
+    laws = command-laws knownOf (done (sceneFor d l g)) (cap g) carries
 
     straight-so : NextUsable g (nextOf (l .ring))
         → let r = runs (turnFor d l g) budget (lineOf d l g) in
-        (runIn (sceneFor d l) g budget (l .ring) (machineOf d l) ≡ left g (l .ring) (lineOf d l g .words) r)
+        (runIn (sceneFor d l g) g budget (l .ring) (machineOf d l g) ≡ left g (l .ring) (lineOf d l g .words) r)
         × RunsRight (turnFor d l g) budget (lineOf d l g) r
-    straight-so u = run-straight (sceneFor d l) g budget (l .ring) (machineOf d l) fits (next-usable g (nextOf (l .ring)) .1 u) carries
+    straight-so u = run-straight (sceneFor d l g) g budget (l .ring) (machineOf d l g) fits (next-usable g (nextOf (l .ring)) .1 u) carries
 
     -- it answers 0, 1, 2, or 10 to 13
     pub run-answers : (runOf d l budget .answer ≤ 2) ⊎ ((10 ≤ runOf d l budget .answer) × (runOf d l budget .answer ≤ 13))
@@ -294,13 +295,13 @@ module _ (d : Device) (l : Lent) (budget : ℕ) where
 
     -- "budget used up: 2"
     pub run-2 : (runOf d l budget .answer ≡ 2) ↔ (runOf d l budget .count ≡ budget)
-    run-2 = rw run-starts (stops-2 _ (run-stops _ g budget (l .ring) (machineOf d l) fits))
+    run-2 = rw run-starts (stops-2 _ (run-stops _ g budget (l .ring) (machineOf d l g) fits))
 
     -- "NEXT_CMD not a multiple of 4 or outside the ring: 13", where the budget is not used up
     pub run-13 : (runOf d l budget .answer ≡ 13) ↔ ((¬ NextUsable g (nextOf (l .ring))) × (¬ (budget ≡ 0)))
     run-13 =
         let u = next-unusable g (nextOf (l .ring)) in
-        let w = Reasons.run-13 _ g budget (l .ring) (machineOf d l) fits carries in
+        let w = Reasons.run-13 _ g budget (l .ring) (machineOf d l g) fits carries in
         rw run-starts (λ e. let x = w .0 e in (u .0 (x .0), x .1), λ x. w .1 (u .1 (x .0), x .1))
 
     -- "A fault consumes nothing of its command and stands": nothing is counted, the fault is remembered, BUSY is cleared; all else is as it was
@@ -309,18 +310,18 @@ module _ (d : Device) (l : Lent) (budget : ℕ) where
     unfolding conditionAfter busyAfter
     run-13-leaves n b =
         let bad = next-unusable g (nextOf (l .ring)) .1 n in
-        rw (run-starts, run-unusable (sceneFor d l) g budget (l .ring) (machineOf d l) fits bad b) refl
+        rw (run-starts, run-unusable (sceneFor d l g) g budget (l .ring) (machineOf d l g) fits bad b) refl
 
     -- "budget used up: 2" comes first: with no budget nothing changes, whatever NEXT_CMD is
     pub run-no-budget : budget ≡ 0 → runOf d l budget ≡ record { answer = 2; count = 0; device = d; lent = l }
     unfolding conditionAfter busyAfter
     run-no-budget z =
-        rw (run-starts, run-none (sceneFor d l) g budget (l .ring) (machineOf d l) fits z)
+        rw (run-starts, run-none (sceneFor d l g) g budget (l .ring) (machineOf d l g) fits z)
         (ap (λ (c : Condition). record { answer = 2; count = 0; device = withCondition d c; lent = l }) (sym (s .4)))
 
     -- where NEXT_CMD is usable: what it answers, counts and leaves, by straight execution alone
     pub run-leaves : NextUsable g (nextOf (l .ring)) → RunLeaves d l g budget (runOf d l budget)
-    run-leaves u = rw (run-starts, straight-so u .0) (ran-leaves d l g budget _ (straight-so u .1))
+    run-leaves u = rw (run-starts, straight-so u .0) (ran-leaves d l g budget fits (straight-so u .1))
 
     -- and nothing else meets that
     pub run-leaves-only : NextUsable g (nextOf (l .ring)) → (o : RunOutcome) → RunLeaves d l g budget o → o ≡ runOf d l budget
@@ -329,7 +330,37 @@ module _ (d : Device) (l : Lent) (budget : ℕ) where
     -- "The words left are those waiting": the next run goes on where this one stopped, if nobody writes the ring
     pub run-waits : NextUsable g (nextOf (l .ring))
         → lineOf (runOf d l budget .device) (runOf d l budget .lent) (passedBy d l g (runOf d l budget .count)) ≡ leftBy d l g (runOf d l budget .count)
-    run-waits u = rw (run-starts, straight-so u .0) (ran-waits d l g _ laws fits (next-usable g (nextOf (l .ring)) .1 u) (straight-so u .1 .goes))
+    run-waits u = rw (run-starts, straight-so u .0) (ran-waits d l g budget fits laws (next-usable g (nextOf (l .ring)) .1 u) (straight-so u .1 .goes))
+
+    -- where NEXT_CMD is unusable nothing is counted, and neither a lent memory nor the fence changes
+    unusable-same : nextGood g (nextOf (l .ring)) ≡ false
+        → (runOf d l budget .count ≡ 0) × (runOf d l budget .lent ≡ l) × (fenceOf (runOf d l budget .device) ≡ fenceOf d)
+    unusable-same bad =
+        cases (eqb budget 0)
+        (λ z. rw (run-no-budget (eqb-true _ _ z)) (refl, refl, refl))
+        (λ z. rw (run-13-leaves (next-unusable g (nextOf (l .ring)) .0 bad) (eqb-false _ _ z)) (refl, refl, refl))
+
+    -- Document 02, P1: "When MIN is 28 or more, an executed FENCE also writes its number to word 6". 28 bytes are seven words. If no FENCE is among the
+    -- commands that the run counted, ring word 6 and the last fence are as they were; if one is, and MIN is 28 or more, ring word 6 is the last fence.
+    pub run-posts :
+        (NoFence (turnFor d l g) (runOf d l budget .count) (lineOf d l g)
+        → (getD (runOf d l budget .lent .ring) 6 0 ≡ getD (l .ring) 6 0) × (fenceOf (runOf d l budget .device) ≡ fenceOf d))
+        × (7 ≤ g .min → (¬ NoFence (turnFor d l g) (runOf d l budget .count) (lineOf d l g))
+        → getD (runOf d l budget .lent .ring) 6 0 ≡ fenceOf (runOf d l budget .device))
+    run-posts =
+        cases (nextGood g (nextOf (l .ring)))
+        (λ good. rw (run-starts, straight-so (next-usable g (nextOf (l .ring)) .0 good) .0) (ran-posts d l g budget fits))
+        (λ bad.
+        let x = unusable-same bad in
+        let uncounted = x .0 in
+        (λ h. (ap (λ (k : Lent). getD (k .ring) 6 0) (x .1), x .2), λ low with-one. absurd (with-one (λ j k. absurd (omega arith)))))
+
+    -- "below that, as today": ring word 6 is as it was
+    pub run-posts-not : g .min < 7 → getD (runOf d l budget .lent .ring) 6 0 ≡ getD (l .ring) 6 0
+    run-posts-not low =
+        cases (nextGood g (nextOf (l .ring)))
+        (λ good. leaves-six d l g budget low (run-leaves (next-usable g (nextOf (l .ring)) .0 good)))
+        (λ bad. ap (λ (k : Lent). getD (k .ring) 6 0) (unusable-same bad .1))
 
     -- where NEXT_CMD is unusable it answers none of 0, 1, 10, 11 and 12,
     ends-usable : (e : End) → endNumber e < 13 → runOf d l budget .answer ≡ endNumber e → NextUsable g (nextOf (l .ring))

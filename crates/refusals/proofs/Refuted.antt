@@ -6,7 +6,7 @@ use mathlib.Core.List.{List, [], _∷_}
 use mathlib.Core.Logic.{⊎-elim}
 use Prim.Native.Nat.{ℕ, suc, _*_, _≤_}
 use native.Mathlib.Omega.{arith}
-use lib.ListN.{length}
+use lib.ListN.{length, getD}
 use Rattle.ring.specs.declared.Ring.{Ring}
 use Rattle.ring.specs.Acceptance.{minOf, maxOf, nextOf, stopOf, Usable}
 use Rattle.ring.specs.Append.{movedOn}
@@ -22,6 +22,7 @@ use Rattle.device_run.specs.Run.{Lent, RunOutcome}
 use Rattle.refusals.specs.Refusing.{isRefusal, Sizes, Make34, Ranged, Write30, Write31, Write32, Write20, Write33, Write0, Read30, PictureLent, Picture20, Picture24}
 use Rattle.refusals.specs.Refusing.{RunLent, Run20, Run22, Run21, Run24, Run23, Starts, NextUsable, leftBy, Reaches, RunLeaves, Append1}
 use Rattle.refusals.specs.Refusing.{Turn0, Turn10, HeadMissing, HeadBad, Turn12, WordsMissing, OperandBad, Executes}
+use Rattle.refusals.proofs.Rules.{leaves-six}
 
 -- ---- answers: "Answers 20 to 34 change nothing"
 
@@ -152,6 +153,10 @@ module _ (d : Device) (l : Lent) (g : Ring) where
     pub leaves-not-uncounted : (o : RunOutcome) → o .count ≡ 0 → (¬ (o .lent .screen ≡ l .screen)) → ¬ RunLeaves d l g budget o
     unfolding straight
     leaves-not-uncounted o none changed x = changed (ap (λ m. m .screen) (x .machine ∙ ap (λ k. leftBy d l g k .machine) none))
+
+    -- a fence posted where MIN is 24
+    pub leaves-not-posted-at-24 : (o : RunOutcome) → g .min ≡ 6 → (¬ (getD (o .lent .ring) 6 0 ≡ getD (l .ring) 6 0)) → ¬ RunLeaves d l g budget o
+    leaves-not-posted-at-24 o low changed x = changed (leaves-six d l g budget (omega arith) x)
 
 -- ---- one turn
 

@@ -4,11 +4,10 @@ use mathlib.Core.Path.{_≡_, refl, sym, ap, subst, _∙_}
 use mathlib.Core.Bool.{true, false, cond}
 use mathlib.Core.List.{List}
 use mathlib.Core.Logic.{_≢_, _↔_, _⊎_, inl, inr, ⊎-elim}
-use Prim.Native.Nat.{ℕ, _-_, _*_, _/_, _≤_, min}
+use Prim.Native.Nat.{ℕ, _-_, _*_, _/_, _≤_, _<_, min}
 use native.Mathlib.Omega.{arith}
 use lib.Dec.{eqb}
-use lib.ListN.{length, take, set}
-use lib.Seq.{getD-set-other}
+use lib.ListN.{length, getD, take, drop}
 use borrow.Author.Tests.{eqb-true, eqb-false, ne-eqb, leb-true, leb-false, le-leb, lt-leb}
 use borrow.Table.Steps.{cases}
 use Rattle.geometry.proofs.Tests.{by-cond, not-both}
@@ -17,19 +16,22 @@ use Rattle.execution.specs.declared.End.the-variants.{Drained, Waiting, Fault}
 use Rattle.execution.specs.Straight.{Turn, ends, exec, Line}
 use Rattle.execution.specs.Table.{turnOf, Laws}
 use Rattle.execution.specs.Claim.{Answer, answerNumber}
-use Rattle.execution.specs.Turns.{LineRun}
+use Rattle.execution.specs.Turns.{LineRun, runs}
 use Rattle.execution.proofs.Laws.{Goes, goes-steps, goes-straight}
 use Rattle.execution.proofs.QueueLaws.{RunsRight}
 use Rattle.ring.specs.declared.Ring.{Ring}
 use Rattle.ring.specs.Acceptance.{nextOf}
-use Rattle.ring.specs.Waiting.{ahead, between, waiting, nextGood}
+use Rattle.ring.specs.Waiting.{ahead, between, waiting, carried, nextGood}
 use Rattle.ring.proofs.Laws.{placed-when}
 use Rattle.ring.proofs.WaitingLaws.{length-waiting, words-left, words-left-written}
 use Rattle.command.specs.declared.Action.{Action}
 use Rattle.command.specs.Commands.{Known, entry, sizeBy, kindIn, commands}
 use Rattle.command.proofs.Rules.{Ruled, foreign, no-head, bad-head, long, no-rest, bad, well, ruled, by-rule, turn-none}
 use Rattle.effect.specs.Effects.{Machine}
-use Rattle.run.specs.Run.{RingOutcome, stamped, left, fitting, runIn}
+use Rattle.run.specs.Run.{RingOutcome, machine, postsIn, stamped, posting, postedIn, left, fitting, runIn}
+use Rattle.run.specs.Turns.{Clear}
+use Rattle.run.proofs.Posting.{clear-min, posting-waits, written-other}
+use Rattle.run.proofs.Fences.{left-posted, Tells, left-tells}
 use Rattle.run.proofs.RunLaws.{fitting-placed, can-view}
 use Rattle.device.specs.declared.Condition.{Condition}
 use Rattle.device.specs.declared.Condition.the-variants.{Idle, Running, Faulted}
@@ -89,7 +91,7 @@ module _ (d : Device) (l : Lent) where
 
   -- what a run that starts does
   abbrev pub started : Ring → ℕ → RingOutcome
-  started g budget = runIn (sceneFor d l) g budget (l .ring) (machineOf d l)
+  started g budget = runIn (sceneFor d l g) g budget (l .ring) (machineOf d l g)
 
   module _ (m : wellFormed d ≡ true) (g : Ring) (budget : ℕ) (s : Starts d l g) where
     pub start : runOf d l budget ≡ ran d l (started g budget)
@@ -100,52 +102,83 @@ module _ (d : Device) (l : Lent) where
     start-fits = ring-fits d m g (s .1) (s .4) l (s .0)
 
     pub start-ended : Ended (answerNumber (started g budget .answer))
-    start-ended = stops-numbers _ (run-stops _ g budget (l .ring) (machineOf d l) start-fits)
+    start-ended = stops-numbers _ (run-stops _ g budget (l .ring) (machineOf d l g) start-fits)
 
-  -- where the turns of a run are right, it leaves what straight execution does
-  pub ran-leaves : (g : Ring) (budget : ℕ) (r : LineRun Machine) → RunsRight (turnFor d l g) budget (lineOf d l g) r
-      → RunLeaves d l g budget (ran d l (left g (l .ring) (lineOf d l g .words) r))
-  unfolding left
-  ran-leaves g budget r x =
-      let there = goes-straight (turnFor d l g) (x .goes) in
-      let answered = x .right-answer in
-      record {
-        count = x .many;
-        executes = goes-steps (turnFor d l g) (x .goes);
-        machine = ap (λ (a : Line Machine). a .machine) (sym there);
-        ring = rw there refl;
-        framebuffer = refl;
-        answer = ap answerNumber answered;
-        condition = rw (there, ← answered) refl;
-        busy = ap (λ (a : Answer). busyAfter a (d .busy)) answered;
-        sizes = refl;
-        registers = refl;
-        plane = refl;
-      }
+  -- a run on a ring that lies in its memory, by its turns
+  module _ (g : Ring) (budget : ℕ) (fits : fitting g (length (l .ring)) (length (l .cursor)) ≡ true) where
+    abbrev turns : LineRun Machine
+    turns = runs (turnFor d l g) budget (lineOf d l g)
 
-  -- and the words that wait then are those left
-  pub ran-waits : (g : Ring) (r : LineRun Machine) → {cap : ℕ} → Laws cap (turnFor d l g) → fitting g (length (l .ring)) (length (l .cursor)) ≡ true
-      → nextGood g (nextOf (l .ring)) ≡ true → Goes (turnFor d l g) (r .count) (lineOf d l g) (r .line)
-      → let o = ran d l (left g (l .ring) (lineOf d l g .words) r) in
-      lineOf (o .device) (o .lent) (passedBy d l g (o .count)) ≡ leftBy d l g (o .count)
-  unfolding left stamped
-  ran-waits g r laws fits good goes =
-      let lo = g .min in
-      let hi = g .max in
-      let next = nextOf (l .ring) / 4 in
-      let gone = length (lineOf d l g .words) - length (r .line .words) in
-      let v = can-view g (length (l .ring)) (length (l .cursor)) (nextOf (l .ring)) fits good in
-      let p = placed-when g (length (l .ring)) (fitting-placed g _ _ fits) in
-      let few : gone ≤ between lo hi (g .stop) next = omega (arith, length-waiting (l .ring) lo hi (g .stop) next) in
-      let rest = sym (goes-words (turnFor d l g) laws goes) in
-      let at : List ℕ → List ℕ = λ ring. waiting ring lo hi (ahead lo hi (g .stop) gone) (nextOf ring / 4) in
-      let same : at (cond (eqb (r .count) 0) (l .ring) (set (l .ring) 3 (ahead lo hi (g .stop) gone * 4))) ≡ r .line .words =
-      cases (eqb (r .count) 0)
-      (λ z. rw z (words-left (l .ring) lo hi (g .stop) next gone (v .0) (v .1) (v .2) (v .3) few ∙ rest))
-      (λ z.
-      rw (z, getD-set-other (l .ring) 3 2 (ahead lo hi (g .stop) gone * 4) 0 (omega arith))
-      (words-left-written (l .ring) lo hi (g .stop) next gone _ (p .past-head) (v .0) (v .1) (v .2) (v .3) few ∙ rest)) in
-      rw (goes-straight (turnFor d l g) goes) (λ i. record { words = same i; machine = r .line .machine })
+    abbrev outcome : RunOutcome
+    outcome = ran d l (left g (l .ring) (lineOf d l g .words) turns)
+
+    -- where fences are posted, the ring memory has a word 6
+    clear : Clear (postsIn g) (length (l .ring))
+    clear t =
+        let p = placed-when g (length (l .ring)) (fitting-placed g _ _ fits) in
+        let low : 7 ≤ g .min = clear-min g refl t in
+        omega arith
+
+    -- it is as the turns leave it
+    posted-left : postedIn (postsIn g) (outcome .lent .ring) ≡ turns .line .machine .posted
+    posted-left = left-posted (sceneFor d l g) (carried (g .min) (g .max)) g (l .ring) budget (lineOf d l g) refl refl clear
+
+    -- and so is the machine
+    machine-left : machineOf (outcome .device) (outcome .lent) g ≡ turns .line .machine
+    unfolding left
+    machine-left = let m = turns .line .machine in ap (machine (m .marks) (m .screen) (m .cursor)) posted-left
+
+    -- where the turns of a run are right, it leaves what straight execution does
+    pub ran-leaves : RunsRight (turnFor d l g) budget (lineOf d l g) turns → RunLeaves d l g budget outcome
+    unfolding left
+    ran-leaves x =
+        let there = goes-straight (turnFor d l g) (x .goes) in
+        let answered = x .right-answer in
+        record {
+          count = x .many;
+          executes = goes-steps (turnFor d l g) (x .goes);
+          machine = machine-left ∙ ap (λ (a : Line Machine). a .machine) (sym there);
+          ring = rw there refl;
+          framebuffer = refl;
+          answer = ap answerNumber answered;
+          condition = rw (there, ← answered) refl;
+          busy = ap (λ (a : Answer). busyAfter a (d .busy)) answered;
+          sizes = refl;
+          registers = refl;
+          plane = refl;
+        }
+
+    -- what it posts, by the commands that it executed
+    pub ran-posts : Tells (sceneFor d l g) (carried (g .min) (g .max)) g (l .ring) (lineOf d l g) (left g (l .ring) (lineOf d l g .words) turns)
+    ran-posts = left-tells (sceneFor d l g) (carried (g .min) (g .max)) g (l .ring) budget (lineOf d l g) refl refl clear
+
+    -- and the words that wait then are those left
+    pub ran-waits : {cap : ℕ} → Laws cap (turnFor d l g) → nextGood g (nextOf (l .ring)) ≡ true
+        → Goes (turnFor d l g) (turns .count) (lineOf d l g) (turns .line)
+        → lineOf (outcome .device) (outcome .lent) (passedBy d l g (outcome .count)) ≡ leftBy d l g (outcome .count)
+    unfolding left stamped
+    ran-waits laws good goes =
+        let lo = g .min in
+        let hi = g .max in
+        let next = nextOf (l .ring) / 4 in
+        let gone = length (lineOf d l g .words) - length (turns .line .words) in
+        let to = ahead lo hi (g .stop) gone in
+        let v = can-view g (length (l .ring)) (length (l .cursor)) (nextOf (l .ring)) fits good in
+        let p = placed-when g (length (l .ring)) (fitting-placed g _ _ fits) in
+        let few : gone ≤ between lo hi (g .stop) next = omega (arith, length-waiting (l .ring) lo hi (g .stop) next) in
+        let rest = sym (goes-words (turnFor d l g) laws goes) in
+        let at : List ℕ → List ℕ = λ ring. waiting ring lo hi to (nextOf ring / 4) in
+        let number = turns .line .machine .posted in
+        let posted = posting (postsIn g) number (l .ring) in
+        let same : at (cond (eqb (turns .count) 0) (l .ring) (stamped to posted)) ≡ turns .line .words =
+        cases (eqb (turns .count) 0)
+        (λ z. rw z (words-left (l .ring) lo hi (g .stop) next gone (v .0) (v .1) (v .2) (v .3) few ∙ rest))
+        (λ z.
+        rw (z, written-other (postsIn g) to number (l .ring) 2 (omega arith) (λ t. omega arith))
+        (words-left-written posted lo hi (g .stop) next gone _ (p .past-head) (v .0) (v .1) (v .2) (v .3) few
+        ∙ ap (drop gone) (posting-waits (postsIn g) number (l .ring) lo hi (g .stop) next (clear-min g refl) (v .0) (v .1))
+        ∙ rest)) in
+        rw (goes-straight (turnFor d l g) goes) (λ i. record { words = same i; machine = machine-left i })
 
   module _ (g : Ring) (budget : ℕ) where
     -- the outcome whose count is k
@@ -162,7 +195,7 @@ module _ (d : Device) (l : Lent) where
         condition = conditionAfter (answerBy d l g budget k) (passedBy d l g k);
       };
       lent = record {
-        ring = cond (eqb k 0) (l .ring) (stamped (passedBy d l g k .stop) (l .ring));
+        ring = cond (eqb k 0) (l .ring) (stamped (passedBy d l g k .stop) (posting (postsIn g) (leftBy d l g k .machine .posted) (l .ring)));
         framebuffer = l .framebuffer;
         screen = leftBy d l g k .machine .screen;
         cursor = leftBy d l g k .machine .cursor;
@@ -190,6 +223,15 @@ module _ (d : Device) (l : Lent) where
     -- what a run leaves is left open in nothing
     pub leaves-one : {o p : RunOutcome} → RunLeaves d l g budget o → RunLeaves d l g budget p → o ≡ p
     leaves-one x y = leaves-is x ∙ sym (leaves-is y)
+
+    -- where fences are not posted, ring word 6 is as it was
+    pub leaves-six : {o : RunOutcome} → g .min < 7 → RunLeaves d l g budget o → getD (o .lent .ring) 6 0 ≡ getD (l .ring) 6 0
+    leaves-six {o} low x =
+        let none : postsIn g ≡ false = lt-leb 7 (g .min) low in
+        rw (x .ring)
+        (cases (eqb (o .count) 0)
+        (λ z. rw z refl)
+        (λ z. rw z (written-other (postsIn g) _ _ (l .ring) 6 (omega arith) (λ t. not-both (postsIn g) t none))))
 
   module _ (budget : ℕ) where
     -- a run by its refusals, in document 01's order

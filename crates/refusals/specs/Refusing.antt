@@ -20,7 +20,7 @@ use Rattle.register.specs.declared.Writable.the-variants.{Id, Enable, Width, He
 use Rattle.register.specs.Numbers.{registerOf}
 use Rattle.command.specs.Commands.{Known, entry, sizeBy, kindIn}
 use Rattle.effect.specs.Effects.{Machine}
-use Rattle.run.specs.Run.{passed, stamped}
+use Rattle.run.specs.Run.{passed, stamped, postsIn, posting}
 use Rattle.device.specs.declared.Condition.the-variants.{Running, Faulted}
 use Rattle.device.specs.declared.Device.{Device}
 use Rattle.device.specs.Device.{memoryOf, pixelsOf, widthOf, heightOf, enabledOf, configuredOf, conditionOf}
@@ -170,10 +170,12 @@ pub record RunLeaves (d : Device) (l : Lent) (g : Ring) (budget : ℕ) (o : RunO
   pub count : o .count ≡ min budget (wholeWaiting d l g)
   -- "the first k steps all execute"
   pub executes : steps (turnFor d l g) (o .count) (lineOf d l g) ≡ o .count
-  -- "all P screen words, all cursor words, the defined cursor and the fence are as those steps leave them"
-  pub machine : machineOf (o .device) (o .lent) ≡ leftBy d l g (o .count) .machine
-  -- "STOP passes it, ring word 3 is written. The run changes no other ring word, and none if it consumed nothing."
-  pub ring : o .lent .ring ≡ cond (eqb (o .count) 0) (l .ring) (stamped (passedBy d l g (o .count) .stop) (l .ring))
+  -- "all P screen words, all cursor words, the defined cursor and the fence are as those steps leave them"; so is ring word 6, "when MIN allows it"
+  pub machine : machineOf (o .device) (o .lent) g ≡ leftBy d l g (o .count) .machine
+  -- "STOP passes it, ring word 3 is written." Document 02, P1: "A run then changes words 3 and 6 only"; "and none if it consumed nothing".
+  pub ring : o .lent .ring
+      ≡ cond (eqb (o .count) 0) (l .ring)
+      (stamped (passedBy d l g (o .count) .stop) (posting (postsIn g) (leftBy d l g (o .count) .machine .posted) (l .ring)))
   -- "framebuffer never"
   pub framebuffer : o .lent .framebuffer ≡ l .framebuffer
   -- 2, or 0, 1, 10, 11 or 12

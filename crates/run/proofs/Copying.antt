@@ -6,8 +6,9 @@ use Prim.Native.Nat.{ℕ, _+_, _-_, _≤_, _<_}
 use native.Mathlib.Omega.{arith}
 use native.Mathlib.Nat.{zero-add}
 use native.Mathlib.Numerals.{add-one}
-use lib.ListN.{length, getD, take, drop, set, length-drop, length-append, take-append-drop}
-use lib.Seq.{take-all, drop-append-le, drop-at, take-at, paste, paste-suc, take-paste, drop-paste, getD-take, getD-drop, length-take-le, ext-getD, drop-drop}
+use lib.ListN.{length, getD, take, drop, set, length-drop, length-append, length-set, take-append-drop, List·getD-append}
+use lib.Seq.{take-all, drop-append-le, drop-at, take-at, paste, paste-suc, take-paste, drop-paste, getD-take, getD-drop, getD-set-same}
+use lib.Seq.{length-take-le, ext-getD, drop-drop}
 use borrow.Author.Tests.{lt-ltb, le-ltb}
 use Rattle.ring.specs.Waiting.{ahead, words}
 use Rattle.ring.proofs.WaitingLaws.{length-words, getD-straight, take-words, drop-words}
@@ -78,20 +79,31 @@ pixels-pasted ring v count p d inside some is =
     (ap (λ k. drop k d) (zero-add count))
 
 -- copied into a line, they lie there in a row
-pub line-row : (ring : List ℕ) (v : View) (n e : ℕ) (d : List ℕ) → length d ≡ 14 → n ≤ 10 → n ≤ v .n → e ≡ n + 4
-    → rowIn (paste d 4 (words ring (v .lo) (v .hi) (v .at) n) n) 4 e ≡ take n (wordsIn ring v)
+pub line-row : (ring : List ℕ) (v : View) (n e : ℕ) (d : List ℕ) → length d ≡ 17 → n ≤ 10 → n ≤ v .n → e ≡ n + 7
+    → rowIn (paste d 7 (words ring (v .lo) (v .hi) (v .at) n) n) 7 e ≡ take n (wordsIn ring v)
 line-row ring v n e d long few some is =
     let s = words ring (v .lo) (v .hi) (v .at) n in
     let all : length s ≡ n = length-words ring (v .lo) (v .hi) (v .at) n in
-    let front : length (take 4 d) ≡ 4 = length-take-le 4 d (omega arith) in
+    let front : length (take 7 d) ≡ 7 = length-take-le 7 d (omega arith) in
     let part : length (take n s) ≡ n = length-take-le n s (omega arith) in
-    let size : e - 4 ≡ n = omega arith in
-    let begin : 4 ≤ length (take 4 d ++ take n s) = rw length-append (omega arith) in
+    let size : e - 7 ≡ n = omega arith in
+    let begin : 7 ≤ length (take 7 d ++ take n s) = rw length-append (omega arith) in
     rw size
-    (ap (take n) (drop-append-le 4 (take 4 d ++ take n s) (drop (4 + n) d) begin ∙ ap (λ (w : List ℕ). w ++ drop (4 + n) d) (drop-at (take 4 d) (take n s) 4 front))
-    ∙ take-at (take n s) (drop (4 + n) d) n part
+    (ap (take n) (drop-append-le 7 (take 7 d ++ take n s) (drop (7 + n) d) begin ∙ ap (λ (w : List ℕ). w ++ drop (7 + n) d) (drop-at (take 7 d) (take n s) 7 front))
+    ∙ take-at (take n s) (drop (7 + n) d) n part
     ∙ take-all n s (omega arith)
     ∙ sym (take-words ring (v .lo) (v .hi) (v .at) (v .n) n some))
+
+-- and the word before them is still there
+pub line-front : (d : List ℕ) (x n : ℕ) (s : List ℕ) → length d ≡ 17 → getD (paste (set d 6 x) 7 s n) 6 0 ≡ x
+line-front d x n s long =
+    let b = set d 6 x in
+    let size : length b ≡ 17 = length-set d 6 x ∙ long in
+    let front : length (take 7 b) ≡ 7 = length-take-le 7 b (omega arith) in
+    List·getD-append (take 7 b ++ take n s) (drop (7 + n) b) 0 6 (omega (arith, length-append (take 7 b) (take n s)))
+    ∙ List·getD-append (take 7 b) (take n s) 0 6 (omega arith)
+    ∙ getD-take 7 b 6 0 (omega arith)
+    ∙ getD-set-same d 6 x 0 (omega arith)
 
 pub six-on : (lo hi at : ℕ) → at + 6 < hi → at + 6 ≡ ahead lo hi at 6
 unfolding ahead

@@ -1,7 +1,7 @@
 -- What a turn that found a command has shown.
 -- Assumes nothing.
 use mathlib.Core.Path.{_≡_, refl, sym, ap, _∙_}
-use mathlib.Core.Bool.{true, true≢false}
+use mathlib.Core.Bool.{Bool, true, true≢false}
 use mathlib.Core.Option.{Option, none, some}
 use mathlib.Core.List.{List, _++_}
 use Prim.Native.Nat.{ℕ, _+_, _*_, _≤_}
@@ -22,7 +22,7 @@ use Rattle.command.specs.declared.Kind.the-variants.{Update, RectFill, RectCopy
 use Rattle.command.specs.Commands.{entry, sizeBy, shapeAt, kindIn}
 use Rattle.command.specs.Findings.{findsIn, kindWith}
 use Rattle.command.proofs.Rules.{Ruled, foreign, no-head, bad-head, long, no-rest, bad, well, ruled, turn-none}
-use Rattle.effect.specs.Effects.{Scene, screenAfter, cursorAfter}
+use Rattle.effect.specs.Effects.{Scene, screenAfter, postedAfter, cursorAfter}
 use Rattle.run.specs.Turns.{Ready}
 use Rattle.run.proofs.Rows.{drop-take}
 
@@ -101,8 +101,13 @@ module _ (cap : ℕ) (w : List ℕ) (a : Action) (n : ℕ) where
   pub found : 1 ≤ length w → findsIn tt cap w ≡ exec n (some a) → Found a n w
   found h q = by-ruled _ (ruled (λ m. tt) (λ a v m. some a) cap none w h) q
 
--- a command with data behind its head paints nothing
+-- a command with data behind its head paints nothing, and posts nothing
 pub data-screen : (d : Data) (s : Scene) (w screen : List ℕ) → screenAfter s (entry (kindWith d) .action w) screen ≡ screen
 unfolding screenAfter entry
 data-screen D.Cursor s w screen = refl
 data-screen D.Escape s w screen = refl
+
+pub data-posts : (d : Data) (posts : Bool) (w : List ℕ) (posted : ℕ) → postedAfter posts (entry (kindWith d) .action w) posted ≡ posted
+unfolding postedAfter entry
+data-posts D.Cursor posts w posted = refl
+data-posts D.Escape posts w posted = refl

@@ -1,13 +1,13 @@
 -- The turns of a run so far, and what is left of it.
 -- Assumes nothing.
 use mathlib.Core.Path.{_≡_, refl, sym, ap, ap₂, _∙_}
-use mathlib.Core.Bool.{cond, true≢false}
+use mathlib.Core.Bool.{Bool, cond, true≢false}
 use mathlib.Core.Option.{Option, none, some}
 use mathlib.Core.List.{List, _++_}
-use Prim.Native.Nat.{ℕ, suc, _+_, _-_, _*_, _≤_, _<_}
+use Prim.Native.Nat.{ℕ, suc, _+_, _-_, _≤_, _<_}
 use native.Mathlib.Omega.{arith}
-use lib.Dec.{eqb, ltb}
-use lib.ListN.{length, take, drop, length-drop, length-set, take-append-drop}
+use lib.Dec.{eqb, ltb, leb}
+use lib.ListN.{length, take, drop, length-drop, take-append-drop}
 use lib.Seq.{drop-drop, drop-append-le, length-take-le}
 use mathlib.Core.Logic.{_≢_}
 use borrow.Author.Tests.{ltb-true, ltb-false, lt-ltb, le-ltb, eqb-true, eqb-false, eq-eqb, ne-eqb}
@@ -20,7 +20,7 @@ use Rattle.execution.specs.Claim as Claim
 use Rattle.execution.specs.Turns.{LineRun, runs}
 use Rattle.execution.proofs.QueueLaws.{runs-ends, runs-exec}
 use Rattle.ring.specs.Waiting.{ahead, words, carried}
-use Rattle.ring.proofs.WaitingLaws.{InRing, ahead-in, ahead-zero, length-words, take-words, drop-words, words-outside}
+use Rattle.ring.proofs.WaitingLaws.{InRing, ahead-in, ahead-zero, length-words, take-words, drop-words}
 use Rattle.cursor.specs.declared.Defined.{Defined}
 use Rattle.command.proofs.Laws.{command-laws}
 use Rattle.effect.specs.declared.Marks.{Marks}
@@ -28,10 +28,11 @@ use Rattle.effect.specs.Effects.{Scene, Machine, done}
 use Rattle.run.specs.declared.View.{View}
 use Rattle.run.specs.declared.Paused.{Paused}
 use Rattle.run.specs.Turns.{wordsIn, InView, Stands, passedIn, rowIn, rowEnd, placeOf}
-use Rattle.run.specs.Run.{knownOf, machine, table, passed, stamped, left, runWords}
+use Rattle.run.specs.Run.{knownOf, machine, table, passed, stamped, postsIn, posting, postedIn, left, runWords}
 use Rattle.run.specs.Going.{plus, line, turn, marked, Going, RowGoing, After, turnedBy, turned}
 use Rattle.run.proofs.Copying.{straight}
-use Rattle.run.proofs.Counts.{plus-zero, plus-end, plus-one, plus-plus, stamped-further}
+use Rattle.run.proofs.Counts.{plus-zero, plus-end, plus-one, plus-plus}
+use Rattle.run.proofs.Posting.{clear-min, length-written, written-words, written-further}
 use Rattle.run.proofs.Rows.{row-drop, row-length}
 
 -- ---- views
@@ -101,7 +102,7 @@ module _ (s : Scene) (budget : ℕ) (v₀ : View) (ring₀ : List ℕ) (m₀ : M
     bounded = omega arith;
     gone = 0;
     part = omega arith;
-    still = λ e. refl;
+    still = λ e. (refl, refl);
     view = same-view v₀ _ _ (ahead-zero (v₀ .lo) (v₀ .hi) (v₀ .at) (i .below)) (omega arith);
     memory = rw (eq-eqb budget budget refl);
     rest = let e : budget - budget ≡ 0 = omega arith in rw e (plus-zero _);
@@ -110,27 +111,30 @@ module _ (s : Scene) (budget : ℕ) (v₀ : View) (ring₀ : List ℕ) (m₀ : M
 -- commands in a row
 pub going-row : {s : Scene} {budget : ℕ} {v : View} {ring : List ℕ} {fence : ℕ} {screen : List ℕ} {end at after left : ℕ} {later painted : List ℕ}
     → InView v (length ring) → 10 + v .lo < v .hi → end ≡ rowEnd v → RowGoing s budget ring (v .at) end fence screen at after left later painted → (defined : Defined) (cursor : List ℕ)
-    → Going s budget v ring (machine (marked fence defined) screen cursor) (passedIn v (at - v .at)) later (machine (marked after defined) painted cursor) left
+    → Going s budget v ring (machine (marked fence defined) screen cursor (postedIn (s .posts) ring))
+    (passedIn v (at - v .at)) later (machine (marked after defined) painted cursor (postedIn (s .posts) later)) left
 going-row {s} {budget} {v} {ring} {fence} {screen} {end} {at} {after} {left} {later} {painted} inside carries is ends-there defined cursor =
     let g : RowGoing s budget ring (v .at) (rowEnd v) fence screen at after left later painted = rw is at ends-there in
     let b = row-bounds ring v inside in
     let there = ahead-row ring v inside at (g .from) (g .within) in
+    let m = machine (marked fence defined) screen cursor (postedIn (s .posts) ring) in
+    let m′ = machine (marked after defined) painted cursor (postedIn (s .posts) later) in
     record {
       bounded = g .bounded;
       gone = at - v .at;
       part = omega (arith, b, g .within);
-      still = λ e. omega (arith, g .still e .0);
+      still = λ e. (omega (arith, g .still e .0), ap (postedIn (s .posts)) (g .stamp ∙ rw (eq-eqb left budget e)));
       view = refl;
       memory = g .stamp ∙ rw there;
       rest =
-          ap (λ (w : List ℕ). runs (turn s v) budget (line w (machine (marked fence defined) screen cursor))) (row-words ring v inside)
+          ap (λ (w : List ℕ). runs (turn s v) budget (line w m)) (row-words ring v inside)
           ∙ g .rest (carried (v .lo) (v .hi)) (drop (rowEnd v - v .at) (wordsIn ring v)) defined cursor (omega arith) (omega (arith, b, inside .held))
-          ∙ ap (λ (w : List ℕ). plus (budget - left) (runs (turn s v) left (line w (machine (marked after defined) painted cursor)))) (sym (row-words-behind ring v inside at (g .from) (g .within)));
+          ∙ ap (λ (w : List ℕ). plus (budget - left) (runs (turn s v) left (line w m′))) (sym (row-words-behind ring v inside at (g .from) (g .within)));
     }
 
 -- one turn that goes on
 module _ {s : Scene} {left : ℕ} {v : View} {ring : List ℕ} {m : Machine} (inside : InView v (length ring)) (carries : 10 + v .lo < v .hi) (some-left : 0 < left) where
-  by-turn : (t : O.Turn Machine) → turn s v m (wordsIn ring v) ≡ t → (a : After) → a ≡ turnedBy v ring m t → a .stop ≡ none
+  by-turn : (t : O.Turn Machine) → turn s v m (wordsIn ring v) ≡ t → (a : After) → a ≡ turnedBy (s .posts) v ring m t → a .stop ≡ none
       → Going s left v ring m (a .view) (a .ring) (a .machine) (left - 1)
   by-turn (ends e) q a p n = absurd (clash (sym n ∙ ap (λ (x : After). x .stop) p))
     where
@@ -177,14 +181,16 @@ stops-there s v ring m a e p q = go (turn s v m (wordsIn ring v)) refl
         clash : none ≡ some e → ⊥
         clash z = true≢false cc
 
-module _ {s : Scene} {budget : ℕ} {v₀ : View} {ring₀ : List ℕ} {m₀ : Machine} (inside : InView v₀ (length ring₀)) (low : 4 ≤ v₀ .lo)
+module _ {s : Scene} {budget : ℕ} {v₀ : View} {ring₀ cursor₀ : List ℕ} {m₀ : Machine} (first : Stands (s .posts) v₀ ring₀ cursor₀)
     {v : View} {ring : List ℕ} {m : Machine} {left : ℕ} (g : Going s budget v₀ ring₀ m₀ v ring m left) where
+  abbrev inside : InView v₀ (length ring₀)
+  inside = first .inside
+
   held-in : (k : ℕ) → k ≤ v₀ .n → InRing (v₀ .lo) (v₀ .hi) (v₀ .at) k
   held-in k h = record { from = inside .from; below = inside .below; held = omega (arith, inside .held) }
 
   pub same-length : length ring ≡ length ring₀
-  unfolding stamped
-  same-length = cases (eqb left budget) (λ e. rw (g .memory, e)) (λ e. rw (g .memory, e, length-set))
+  same-length = cases (eqb left budget) (λ e. rw (g .memory, e)) (λ e. rw (g .memory, e) (length-written (s .posts) _ _ ring₀))
 
   pub same-ends : (v .lo ≡ v₀ .lo) × (v .hi ≡ v₀ .hi)
   same-ends = (ap (λ (x : View). x .lo) (g .view), ap (λ (x : View). x .hi) (g .view))
@@ -197,13 +203,13 @@ module _ {s : Scene} {budget : ℕ} {v₀ : View} {ring₀ : List ℕ} {m₀ : M
 
   -- its words are those that were there, without the ones that are gone
   words-now : wordsIn ring v ≡ drop (g .gone) (wordsIn ring₀ v₀)
-  unfolding stamped
   words-now =
       let p = ahead-in (v₀ .lo) (v₀ .hi) (v₀ .at) (g .gone) (held-in (g .gone) (g .part)) in
       let d = drop-words ring₀ (v₀ .lo) (v₀ .hi) (v₀ .at) (v₀ .n) (g .gone) (held-in (v₀ .n) (omega arith)) (g .part) in
       cases (eqb left budget)
       (λ e. rw (g .memory, e, g .view) (sym d))
-      (λ e. rw (g .memory, e, g .view) (words-outside ring₀ _ _ _ _ 3 _ (p .0) (p .1) (omega arith) ∙ sym d))
+      (λ e. rw (g .memory, e, g .view)
+      (written-words (s .posts) _ _ ring₀ _ _ _ _ (first .low) (clear-min (placeOf v₀) (first .posted)) (p .0) (p .1) ∙ sym d))
 
   -- commands from here on belong to the whole
   pub going-further : {to : View} {later : List ℕ} {after : Machine} {k : ℕ} → Going s left v ring m to later after k → Going s budget v₀ ring₀ m₀ to later after k
@@ -217,9 +223,13 @@ module _ {s : Scene} {budget : ℕ} {v₀ : View} {ring₀ : List ℕ} {m₀ : M
         bounded = omega (arith, f .bounded, g .bounded);
         gone = g .gone + f .gone;
         part = part;
-        still = λ e. let a = g .still (omega (arith, f .bounded, g .bounded)) in let b = f .still (omega (arith, f .bounded, g .bounded)) in omega arith;
+        still = λ e.
+            let a = g .still (omega (arith, f .bounded, g .bounded)) in
+            let b = f .still (omega (arith, f .bounded, g .bounded)) in
+            (omega arith, b .1 ∙ a .1);
         view = f .view ∙ ap (λ (x : View). passedIn x (f .gone)) (g .view) ∙ passed-passed v₀ (g .gone) (f .gone) (inside .from) (inside .below) (omega (arith, inside .held));
-        memory = stamped-further budget left k (v .at) (to .at) ring₀ ring later (g .bounded) (f .bounded) (λ z. ap (λ (x : View). x .at) (none (f .still z))) (g .memory) (f .memory);
+        memory = written-further (s .posts) budget left k (v .at) (to .at) (m .posted) (after .posted) ring₀ ring later (g .bounded) (f .bounded)
+            (λ z. (ap (λ (x : View). x .at) (none (f .still z .0)), f .still z .1)) (g .memory) (f .memory);
         rest = g .rest ∙ ap (λ (r : LineRun Machine). plus (budget - left) r) there ∙ plus-plus (budget - left) (left - k) (budget - k) _ together
             ∙ ap (λ (w : List ℕ). plus (budget - k) (runs (turn s v₀) k (line w after))) (drop-drop (f .gone) (g .gone) (wordsIn ring₀ v₀));
       }
@@ -248,48 +258,57 @@ module _ {s : Scene} {budget : ℕ} {v₀ : View} {ring₀ : List ℕ} {m₀ : M
   going-left a count c q =
       let n : length (wordsIn ring₀ v₀) - length (drop (g .gone) (wordsIn ring₀ v₀)) ≡ g .gone = rw (length-drop, length-words ring₀ (v₀ .lo) (v₀ .hi) (v₀ .at) (v₀ .n)) (omega (arith, g .part)) in
       let at : placeOf v ≡ passed (placeOf v₀) (g .gone) = ap placeOf (g .view) in
-      rw (q, n, ← at) (λ i. record { answer = a; count = count; place = placeOf v; ring = (g .memory ∙ same-test ∙ ap (λ p. cond (eqb count 0) ring₀ (stamped p ring₀)) (ap (λ (x : View). x .at) (g .view))) i; machine = m })
+      let there = ap (λ p. cond (eqb count 0) ring₀ (stamped p (posting (s .posts) (m .posted) ring₀))) (ap (λ (x : View). x .at) (g .view)) in
+      let stop = ahead (v₀ .lo) (v₀ .hi) (v₀ .at) (g .gone) in
+      let by-min = ap (λ (b : Bool). cond (eqb count 0) ring₀ (stamped stop (posting b (m .posted) ring₀))) (first .posted) in
+      rw (q, n, ← at) (λ i. record { answer = a; count = count; place = placeOf v; ring = (g .memory ∙ same-test _ ∙ there ∙ by-min) i; machine = m })
     where
-      same-test : cond (eqb left budget) ring₀ (stamped (v .at) ring₀) ≡ cond (eqb count 0) ring₀ (stamped (v .at) ring₀)
-      same-test =
+      same-test : (wrote : List ℕ) → cond (eqb left budget) ring₀ wrote ≡ cond (eqb count 0) ring₀ wrote
+      same-test wrote =
           cases (eqb left budget)
           (λ t. let z : count ≡ 0 = omega (arith, eqb-true left budget t) in rw (t, z))
           (λ t. let f : left ≢ budget = eqb-false left budget t in rw (t, ne-eqb count 0 (omega (arith, g .bounded))))
 
   -- a run may go on from here
-  pub can-stand : {cursor₀ cursor : List ℕ} → Stands v₀ ring₀ cursor₀ → length cursor ≡ length cursor₀ → Stands v ring cursor
-  can-stand h same = record {
+  pub can-stand : {cursor : List ℕ} → length cursor ≡ length cursor₀ → Stands (s .posts) v ring cursor
+  can-stand same = record {
     inside = in-view;
-    low = omega (arith, same-ends .0, h .low);
-    small = omega (arith, same-ends .1, h .small);
-    carries = omega (arith, same-ends .0, same-ends .1, h .carries);
-    image = same ∙ h .image;
+    low = omega (arith, same-ends .0, first .low);
+    small = omega (arith, same-ends .1, first .small);
+    carries = omega (arith, same-ends .0, same-ends .1, first .carries);
+    image = same ∙ first .image;
+    posted = first .posted ∙ ap (leb 7) (sym (same-ends .0));
   }
 
 -- the commands of a row, as part of the whole
 pub going-rows : {s : Scene} {budget : ℕ} {v₀ : View} {ring₀ cursor₀ : List ℕ} {m₀ : Machine} {v : View} {ring screen cursor : List ℕ} {marks : Marks} {left : ℕ}
-    {end at after later : ℕ} {memory painted : List ℕ} → Stands v₀ ring₀ cursor₀ → Going s budget v₀ ring₀ m₀ v ring (machine marks screen cursor) left → Stands v ring cursor
+    {end at after later : ℕ} {memory painted : List ℕ} → Stands (s .posts) v₀ ring₀ cursor₀
+    → Going s budget v₀ ring₀ m₀ v ring (machine marks screen cursor (postedIn (s .posts) ring)) left → Stands (s .posts) v ring cursor
     → end ≡ rowEnd v → RowGoing s left ring (v .at) end (marks .fence) screen at after later memory painted → (to : View) → to ≡ passedIn v (at - v .at)
-    → Going s budget v₀ ring₀ m₀ to memory (machine (marked after (marks .defined)) painted cursor) later
-going-rows {cursor} {marks} first g here is row to p =
-    rw p (going-further (first .inside) (first .low) g (going-row (here .inside) (here .carries) is row (marks .defined) cursor))
+    → Going s budget v₀ ring₀ m₀ to memory (machine (marked after (marks .defined)) painted cursor (postedIn (s .posts) memory)) later
+going-rows {cursor} {marks} first g here is row to p = rw p (going-further first g (going-row (here .inside) (here .carries) is row (marks .defined) cursor))
 
 -- one turn more
 pub going-one : {s : Scene} {budget : ℕ} {v₀ : View} {ring₀ cursor₀ : List ℕ} {m₀ : Machine} {v : View} {ring cursor : List ℕ} {m : Machine} {left : ℕ}
-    → Stands v₀ ring₀ cursor₀ → Going s budget v₀ ring₀ m₀ v ring m left → Stands v ring cursor → 0 < left → (a : After) → a ≡ turned s v ring m → a .stop ≡ none
-    → Going s budget v₀ ring₀ m₀ (a .view) (a .ring) (a .machine) (left - 1)
-going-one first g here h a p q = going-further (first .inside) (first .low) g (going-turn (here .inside) (here .carries) h a p q)
+    → Stands (s .posts) v₀ ring₀ cursor₀ → Going s budget v₀ ring₀ m₀ v ring m left → Stands (s .posts) v ring cursor → 0 < left
+    → (a : After) → a ≡ turned s v ring m → a .stop ≡ none → Going s budget v₀ ring₀ m₀ (a .view) (a .ring) (a .machine) (left - 1)
+going-one first g here h a p q = going-further first g (going-turn (here .inside) (here .carries) h a p q)
 
 -- what the run gives where a turn ends it
 pub going-stops : {s : Scene} {budget : ℕ} {v₀ : View} {ring₀ cursor₀ : List ℕ} {m₀ : Machine} {v : View} {ring : List ℕ} {m : Machine} {left : ℕ}
-    → Stands v₀ ring₀ cursor₀ → Going s budget v₀ ring₀ m₀ v ring m left → 0 < left → (a : After) → a ≡ turned s v ring m → (e : End) → a .stop ≡ some e
+    → Stands (s .posts) v₀ ring₀ cursor₀ → Going s budget v₀ ring₀ m₀ v ring m left → 0 < left
+    → (a : After) → a ≡ turned s v ring m → (e : End) → a .stop ≡ some e
     → (o : Machine) → o .marks ≡ m .marks → o .screen ≡ a .machine .screen → o .cursor ≡ a .machine .cursor
-    → record { answer = Claim.ended e; count = budget - left; place = placeOf v; ring = a .ring; machine = o } ≡ runWords (turn s v₀) (placeOf v₀) budget ring₀ (wordsIn ring₀ v₀) m₀
-going-stops {s} {v} {ring} {m} first g h a p e q o marks screen cursor =
+    → o .posted ≡ postedIn (postsIn (placeOf v)) (a .ring) → a .machine .posted ≡ postedIn (s .posts) (a .ring)
+    → record { answer = Claim.ended e; count = budget - left; place = placeOf v; ring = a .ring; machine = o }
+    ≡ runWords (turn s v₀) (placeOf v₀) budget ring₀ (wordsIn ring₀ v₀) m₀
+going-stops {s} {cursor₀} {v} {ring} {m} first g h a p e q o marks screen cursor posted there =
     let t = stops-there s v ring m a e p q in
+    let by-min = ap (λ (b : Bool). postedIn b (a .ring)) (sym (can-stand first g {cursor = cursor₀} refl .posted)) in
     let same : o ≡ m = λ i. record {
       screen = (screen ∙ ap (λ (x : Machine). x .screen) (t .2)) i;
       cursor = (cursor ∙ ap (λ (x : Machine). x .cursor) (t .2)) i;
       marks = marks i;
+      posted = (posted ∙ by-min ∙ sym there ∙ ap (λ (x : Machine). x .posted) (t .2)) i;
     } in
-    rw (t .1, same) (going-left (first .inside) (first .low) g _ _ refl (going-ends (first .inside) (first .low) g e h (t .0)))
+    rw (t .1, same) (going-left first g _ _ refl (going-ends first g e h (t .0)))

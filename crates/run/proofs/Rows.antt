@@ -4,12 +4,12 @@ use mathlib.Core.Path.{_≡_, refl, sym, ap, ap₂, _∙_}
 use mathlib.Core.Bool.{cond, true≢false}
 use mathlib.Core.Option.{none, some}
 use mathlib.Core.List.{List, [], _∷_, _++_}
-use Prim.Native.Nat.{ℕ, zero, suc, _+_, _-_, _*_, _≤_, _<_}
+use Prim.Native.Nat.{ℕ, zero, suc, _+_, _-_, _≤_, _<_}
 use native.Mathlib.Omega.{arith}
 use native.Mathlib.Nat.{zero-add, suc-add}
 use lib.Dec.{eqb}
-use lib.ListN.{length, take, drop, length-drop, length-set}
-use lib.Seq.{take-nil, drop-drop, drop-append-le, drop-set-lt, length-take-le}
+use lib.ListN.{length, take, drop, length-drop}
+use lib.Seq.{take-nil, drop-drop, drop-append-le, length-take-le}
 use borrow.Author.Tests.{ne-eqb, eq-eqb}
 use borrow.Table.Steps.{cases}
 use Rattle.execution.specs.declared.Cause.{Cause}
@@ -27,12 +27,13 @@ use Rattle.command.specs.declared.Step.the-variants as Step
 use Rattle.command.specs.Findings.{stepIn, onMachine}
 use Rattle.command.proofs.Rules.{turn-found}
 use Rattle.command.proofs.Steps.{KeepsCursor, whole, does-turn}
-use Rattle.effect.specs.Effects.{Scene, Machine, screenAfter, fenceAfter, definedAfter, cursorAfter, done}
+use Rattle.effect.specs.Effects.{Scene, Machine, screenAfter, fenceAfter, postedAfter, definedAfter, cursorAfter, done}
 use Rattle.run.specs.declared.Pause.the-variants.{Spent, Short, Faults, Long}
-use Rattle.run.specs.Run.{knownOf, machine, table, stamped}
-use Rattle.run.specs.Turns.{rowIn}
+use Rattle.run.specs.Run.{knownOf, machine, table, stamped, posting, postedIn}
+use Rattle.run.specs.Turns.{rowIn, Clear}
 use Rattle.run.specs.Going.{plus, line, marked, pauseOf, Pauses, RowGoing}
-use Rattle.run.proofs.Counts.{plus-zero, plus-one, stamped-further}
+use Rattle.run.proofs.Counts.{plus-zero, plus-one}
+use Rattle.run.proofs.Posting.{posted-after-none, length-written, written-row, posted-written, written-further}
 
 -- ---- rows
 
@@ -49,11 +50,6 @@ row-drop l a n e h =
 
 pub row-length : (l : List ℕ) (a e : ℕ) → e ≤ length l → length (rowIn l a e) ≡ e - a
 row-length l a e h = length-take-le (e - a) (drop a l) (rw length-drop (omega arith))
-
--- ring word 3 lies in no row
-row-stamped : (l : List ℕ) (at a e : ℕ) → 4 ≤ a → rowIn (stamped at l) a e ≡ rowIn l a e
-unfolding stamped
-row-stamped l at a e h = ap (take (e - a)) (drop-set-lt a l 3 (at * 4) (omega arith))
 
 -- ---- actions that leave the cursor alone
 
@@ -75,13 +71,15 @@ keeps-defined (A.Define s) defined k = absurd k
 keeps-defined (A.Fence number) defined k = refl
 keeps-defined A.Nothing defined k = refl
 
-done-kept : (s : Scene) (a : Action) (w : List ℕ) (fence : ℕ) (defined : Defined) (screen cursor : List ℕ) → KeepsCursor a
-    → done s a w (machine (marked fence defined) screen cursor) ≡ machine (marked (fenceAfter a fence) defined) (screenAfter s a screen) cursor
+done-kept : (s : Scene) (a : Action) (w : List ℕ) (fence : ℕ) (defined : Defined) (screen cursor : List ℕ) (posted : ℕ) → KeepsCursor a
+    → done s a w (machine (marked fence defined) screen cursor posted)
+    ≡ machine (marked (fenceAfter a fence) defined) (screenAfter s a screen) cursor (postedAfter (s .posts) a posted)
 unfolding done
-done-kept s a w fence defined screen cursor k = λ i. record {
+done-kept s a w fence defined screen cursor posted k = λ i. record {
   screen = screenAfter s a screen;
   cursor = keeps-cursor a w cursor k i;
   marks = record { fence = fenceAfter a fence; defined = keeps-defined a defined k i };
+  posted = postedAfter (s .posts) a posted;
 }
 
 -- ---- the loop
@@ -98,15 +96,20 @@ module _ (s : Scene) (budget : ℕ) (memory₀ : List ℕ) (a e : ℕ) (fence₀
   }
 
 module _ {s : Scene} {budget : ℕ} {memory₀ : List ℕ} {a e : ℕ} {fence₀ : ℕ} {screen₀ : List ℕ} (low : 4 ≤ a) (there : e ≤ length memory₀)
-    {at fence left : ℕ} {memory screen : List ℕ} (g : RowGoing s budget memory₀ a e fence₀ screen₀ at fence left memory screen) where
+    (clear : Clear (s .posts) a) {at fence left : ℕ} {memory screen : List ℕ}
+    (g : RowGoing s budget memory₀ a e fence₀ screen₀ at fence left memory screen) where
   pub same-row : rowIn memory at e ≡ rowIn memory₀ at e
   same-row =
       let h = g .from in
-      cases (eqb left budget) (λ t. rw (g .stamp, t)) (λ t. rw (g .stamp, t) (row-stamped memory₀ at at e (omega arith)))
+      let behind : Clear (s .posts) at = λ t. omega (arith, clear t) in
+      cases (eqb left budget) (λ t. rw (g .stamp, t)) (λ t. rw (g .stamp, t) (written-row (s .posts) at _ memory₀ at e (omega arith) behind))
 
   pub row-same-length : length memory ≡ length memory₀
-  unfolding stamped
-  row-same-length = cases (eqb left budget) (λ t. rw (g .stamp, t)) (λ t. rw (g .stamp, t, length-set))
+  row-same-length = cases (eqb left budget) (λ t. rw (g .stamp, t)) (λ t. rw (g .stamp, t) (length-written (s .posts) at _ memory₀))
+
+  -- a FENCE can be posted there
+  pub row-clear : Clear (s .posts) (length memory)
+  row-clear t = let l = row-same-length in omega (arith, clear t, g .from, g .within)
 
   module _ (act : Action) (n : ℕ) (does : stepIn tt (rowIn memory at e) ≡ Does act n) where
     found : stepIn tt (rowIn memory₀ at e) ≡ Does act n
@@ -118,48 +121,60 @@ module _ {s : Scene} {budget : ℕ} {memory₀ : List ℕ} {a e : ℕ} {fence₀
         let l = row-length memory₀ at e there in
         (w .one, omega (arith, w .fits, w .one, g .within))
 
+    -- what it posts
+    abbrev posts-now : ℕ
+    posts-now = postedAfter (s .posts) act (postedIn (s .posts) memory)
+
     turns : (cap : ℕ) (tail : List ℕ) (defined : Defined) (cursor : List ℕ) → 10 ≤ cap → e - a ≤ cap
-        → turnOf cap (table s) (machine (marked fence defined) screen cursor) (rowIn memory₀ at e ++ tail)
-        ≡ exec n (machine (marked (fenceAfter act fence) defined) (screenAfter s act screen) cursor)
+        → turnOf cap (table s) (machine (marked fence defined) screen cursor (postedIn (s .posts) memory)) (rowIn memory₀ at e ++ tail)
+        ≡ exec n (machine (marked (fenceAfter act fence) defined) (screenAfter s act screen) cursor posts-now)
     turns cap tail defined cursor h k =
-        let m = machine (marked fence defined) screen cursor in
+        let m = machine (marked fence defined) screen cursor (postedIn (s .posts) memory) in
         let row = rowIn memory₀ at e in
         turn-found knownOf (done s) cap m (row ++ tail)
         ∙ ap (onMachine (done s) m (row ++ tail)) (does-turn tt row act n found cap h (rw (row-length memory₀ at e there) (omega (arith, g .from))) tail)
-        ∙ ap (exec n) (done-kept s act (take n (row ++ tail)) fence defined screen cursor (whole tt row act n found .keeps))
+        ∙ ap (exec n) (done-kept s act (take n (row ++ tail)) fence defined screen cursor _ (whole tt row act n found .keeps))
 
-    pub row-more : 0 < left → (later : List ℕ) → later ≡ stamped (at + n) memory → (painted : List ℕ) → painted ≡ screenAfter s act screen
-        → (number : ℕ) → number ≡ fenceAfter act fence → RowGoing s budget memory₀ a e fence₀ screen₀ (at + n) number (left - 1) later painted
-    row-more h later p painted q number r =
-        let b = g .bounded in
-        let fits = row-fits in
-        let f = g .from in
-        record {
-          bounded = omega arith;
-          from = omega arith;
-          within = fits .1;
-          still = λ z. absurd (omega arith);
-          stamp = stamped-further budget left (left - 1) at (at + n) memory₀ memory later b (omega arith) (λ z. absurd (omega arith)) (g .stamp) (p ∙ rw (ne-eqb (left - 1) left (omega arith)));
-          rest = λ cap tail defined cursor x y. one cap tail defined cursor x y;
-        }
-      where
-        one : (cap : ℕ) (tail : List ℕ) (defined : Defined) (cursor : List ℕ) → 10 ≤ cap → e - a ≤ cap
-            → runs (turnOf cap (table s)) budget (line (rowIn memory₀ a e ++ tail) (machine (marked fence₀ defined) screen₀ cursor))
-            ≡ plus (budget - (left - 1)) (runs (turnOf cap (table s)) (left - 1) (line (rowIn memory₀ (at + n) e ++ tail) (machine (marked number defined) painted cursor)))
-        one cap tail defined cursor x y =
-            let b = g .bounded in
-            let k : left ≡ suc (left - 1) = omega arith in
-            let t = turnOf cap (table s) in
-            let l = line (rowIn memory₀ at e ++ tail) (machine (marked fence defined) screen cursor) in
-            let more : budget - (left - 1) ≡ suc (budget - left) = omega arith in
-            let words : drop n (rowIn memory₀ at e ++ tail) ≡ rowIn memory₀ (at + n) e ++ tail =
-            drop-append-le n (rowIn memory₀ at e) tail (rw (row-length memory₀ at e there) (omega (arith, row-fits .1)))
-            ∙ ap (λ (w : List ℕ). w ++ tail) (row-drop memory₀ at n e (row-fits .1)) in
-            g .rest cap tail defined cursor x y
-            ∙ ap (λ j. plus (budget - left) (runs t j l)) k
-            ∙ ap (plus (budget - left)) (runs-exec t (left - 1) l n _ (turns cap tail defined cursor x y))
-            ∙ plus-one (budget - left) (budget - (left - 1)) _ more
-            ∙ rw (q, r) (ap (λ (w : List ℕ). plus (budget - (left - 1)) (runs t (left - 1) (line w (machine (marked (fenceAfter act fence) defined) (screenAfter s act screen) cursor)))) words)
+    module _ (some-left : 0 < left) (later : List ℕ) (wrote : later ≡ stamped (at + n) (posting (s .posts) posts-now memory))
+        (painted : List ℕ) (drawn : painted ≡ screenAfter s act screen) (number : ℕ) (fenced : number ≡ fenceAfter act fence) where
+      posted-now : postedIn (s .posts) later ≡ posts-now
+      posted-now = ap (postedIn (s .posts)) wrote ∙ posted-written (s .posts) (at + n) posts-now memory row-clear (posted-after-none (s .posts) act memory)
+
+      one : (cap : ℕ) (tail : List ℕ) (defined : Defined) (cursor : List ℕ) → 10 ≤ cap → e - a ≤ cap
+          → runs (turnOf cap (table s)) budget (line (rowIn memory₀ a e ++ tail) (machine (marked fence₀ defined) screen₀ cursor (postedIn (s .posts) memory₀)))
+          ≡ plus (budget - (left - 1)) (runs (turnOf cap (table s)) (left - 1)
+          (line (rowIn memory₀ (at + n) e ++ tail) (machine (marked number defined) painted cursor (postedIn (s .posts) later))))
+      one cap tail defined cursor x y =
+          let b = g .bounded in
+          let k : left ≡ suc (left - 1) = omega arith in
+          let t = turnOf cap (table s) in
+          let l = line (rowIn memory₀ at e ++ tail) (machine (marked fence defined) screen cursor (postedIn (s .posts) memory)) in
+          let m = machine (marked (fenceAfter act fence) defined) (screenAfter s act screen) cursor posts-now in
+          let more : budget - (left - 1) ≡ suc (budget - left) = omega arith in
+          let words : drop n (rowIn memory₀ at e ++ tail) ≡ rowIn memory₀ (at + n) e ++ tail =
+          drop-append-le n (rowIn memory₀ at e) tail (rw (row-length memory₀ at e there) (omega (arith, row-fits .1)))
+          ∙ ap (λ (w : List ℕ). w ++ tail) (row-drop memory₀ at n e (row-fits .1)) in
+          g .rest cap tail defined cursor x y
+          ∙ ap (λ j. plus (budget - left) (runs t j l)) k
+          ∙ ap (plus (budget - left)) (runs-exec t (left - 1) l n _ (turns cap tail defined cursor x y))
+          ∙ plus-one (budget - left) (budget - (left - 1)) _ more
+          ∙ rw (posted-now, drawn, fenced) (ap (λ (w : List ℕ). plus (budget - (left - 1)) (runs t (left - 1) (line w m))) words)
+
+      pub row-more : RowGoing s budget memory₀ a e fence₀ screen₀ (at + n) number (left - 1) later painted
+      row-more =
+          let b = g .bounded in
+          let fits = row-fits in
+          let f = g .from in
+          record {
+            bounded = omega arith;
+            from = omega arith;
+            within = fits .1;
+            still = λ z. absurd (omega arith);
+            stamp = rw posted-now
+                (written-further (s .posts) budget left (left - 1) at (at + n) _ posts-now memory₀ memory later b (omega arith) (λ z. absurd (omega arith))
+                (g .stamp) (wrote ∙ rw (ne-eqb (left - 1) left (omega arith))));
+            rest = λ cap tail defined cursor x y. one cap tail defined cursor x y;
+          }
 
 -- ---- why it paused
 

@@ -1,7 +1,7 @@
 -- A run by its first tests.
 -- Assumes nothing.
 use mathlib.Core.Path.{_≡_, refl, sym, ap, _∙_}
-use mathlib.Core.Bool.{true, false}
+use mathlib.Core.Bool.{Bool, true, false}
 use mathlib.Core.List.{List}
 use Prim.Native.Nat.{ℕ, zero, suc, _-_, _/_, _≤_, _<_}
 use native.Mathlib.Omega.{arith}
@@ -22,10 +22,11 @@ use Rattle.ring.specs.Acceptance.{nextOf}
 use Rattle.ring.specs.Waiting.{ahead, waiting, carried, placed, nextGood}
 use Rattle.ring.proofs.Laws.{placed-when}
 use Rattle.ring.proofs.WaitingLaws.{ahead-zero}
-use Rattle.effect.specs.Effects.{Scene, Machine}
+use Rattle.effect.specs.declared.Marks.{Marks}
+use Rattle.effect.specs.Effects.{Scene, scene, Machine}
 use Rattle.run.specs.declared.View.{View}
 use Rattle.run.specs.Turns.{Stands, wordsIn, viewOf, placeOf, nextUnusable}
-use Rattle.run.specs.Run.{table, turnIn, left, runWords, fitting, runIn}
+use Rattle.run.specs.Run.{machine, table, postsIn, postedIn, turnIn, left, runWords, fitting, runIn}
 use Rattle.run.proofs.Laws.{next-says, in-view}
 
 -- where the tests of lengths fail
@@ -83,6 +84,15 @@ run-good s g budget ring m v fits good e =
     ap (λ (x : View). runWords (turnOf (carried (x .lo) (x .hi)) (table s)) (placeOf x) budget ring (wordsIn ring x) m) e
     ∙ rw fits (ap (λ (t : Machine → List ℕ → O.Turn Machine). runWords t g budget ring (wordsIn ring (viewOf g (nextOf ring))) m) (sym (turn-kept s g (nextOf ring) good)))
 
+-- fences are posted as MIN has it
+module _ (width rows : ℕ) (framebuffer : List ℕ) (g : Ring) (budget : ℕ) (ring : List ℕ) (marks : Marks) (screen cursor : List ℕ)
+    (v : View) (posts : Bool) where
+  pub run-posts : fitting g (length ring) (length cursor) ≡ true → nextGood g (nextOf ring) ≡ true → v ≡ viewOf g (nextOf ring) → posts ≡ postsIn g
+      → runWords (turnOf (carried (v .lo) (v .hi)) (table (scene width rows framebuffer posts))) (placeOf v) budget ring (wordsIn ring v)
+      (machine marks screen cursor (postedIn posts ring))
+      ≡ runIn (scene width rows framebuffer (postsIn g)) g budget ring (machine marks screen cursor (postedIn (postsIn g) ring))
+  run-posts fits good e by-min = rw by-min (run-good _ g budget ring _ v fits good e)
+
 -- what the places of the ring's words ask for
 pub can-view : (g : Ring) (words image next : ℕ) → fitting g words image ≡ true → nextGood g next ≡ true
     → (g .min ≤ g .stop) × (g .stop < g .max) × (g .min ≤ next / 4) × (next / 4 < g .max)
@@ -95,9 +105,9 @@ pub head-there : (g : Ring) (words image : ℕ) → fitting g words image ≡ tr
 head-there g words image fits = let p = placed-when g words (fitting-placed g words image fits) in omega arith
 
 pub can-turn : (g : Ring) (ring cursor : List ℕ) (next : ℕ) (v : View) → fitting g (length ring) (length cursor) ≡ true → nextGood g next ≡ true → v ≡ viewOf g next
-    → Stands v ring cursor
+    → (posts : Bool) → posts ≡ postsIn g → Stands posts v ring cursor
 unfolding fitting
-can-turn g ring cursor next v fits good e =
+can-turn g ring cursor next v fits good e posts by-min =
     let there = fitting-placed g (length ring) (length cursor) fits in
     let p = placed-when g (length ring) there in
     let rest = both (leb (g .max) 524288) _ (both (placed g (length ring)) _ fits .1) in
@@ -107,4 +117,5 @@ can-turn g ring cursor next v fits good e =
       small = leb-true _ _ (rest .0);
       carries = omega (arith, p .size);
       image = eqb-true _ _ (rest .1);
+      posted = by-min;
     }

@@ -4,6 +4,7 @@ use mathlib.Core.Path.{_≡_, refl, sym, ap, _∙_}
 use mathlib.Core.Option.{Option, none, some}
 use mathlib.Core.List.{List, _++_}
 use Prim.Native.Nat.{ℕ, suc, zero, _+_, _-_, _≤_, _<_}
+use mathlib.Core.Bool.{Bool, true, false}
 use native.Mathlib.Omega.{arith}
 use lib.Dec.{ltb}
 use lib.ListN.{length, take, drop, getD, length-drop, length-append, take-append-drop, List·getD-eq-default}
@@ -34,28 +35,30 @@ use Rattle.command.proofs.Begun.{finds-alike, length-begun, word-begun, kind-be
 use Rattle.command.proofs.Rules.{turn-found, turn-none}
 use Rattle.command.proofs.Steps.{short-few, short-turn, fault-turn, long-kind, long-there}
 use Rattle.effect.specs.declared.Marks.{Marks}
-use Rattle.effect.specs.Effects.{Scene, Machine, screenAfter, cursorAfter, marksAfter, done}
+use Rattle.effect.specs.Effects.{Scene, Machine, screenAfter, postedAfter, cursorAfter, marksAfter, done}
 use Rattle.run.specs.declared.View.{View}
 use Rattle.run.specs.Turns.{InView, Stands, wordsIn, passedIn, rowIn, LineOf}
-use Rattle.run.specs.Run.{knownOf, machine, table, stamped}
+use Rattle.run.specs.Run.{knownOf, machine, table, stamped, posting, postedIn}
 use Rattle.run.specs.Going.{plus, line, marked, turn, RowGoing, turnedBy, turned}
+use Rattle.run.proofs.Posting.{posted-none, posted-written}
 use Rattle.run.proofs.Rows.{row-length}
-use Rattle.run.proofs.Found.{Found, found, data-screen}
+use Rattle.run.proofs.Found.{Found, found, data-screen, data-posts}
 
 -- the turn decides what is left
-turned-by : (s : Scene) (v : View) (ring : List ℕ) (m : Machine) (t : Turn Machine) → turn s v m (wordsIn ring v) ≡ t → turned s v ring m ≡ turnedBy v ring m t
+turned-by : (s : Scene) (v : View) (ring : List ℕ) (m : Machine) (t : Turn Machine) → turn s v m (wordsIn ring v) ≡ t → turned s v ring m ≡ turnedBy (s .posts) v ring m t
 unfolding turned
-turned-by s v ring m t e = ap (turnedBy v ring m) e
+turned-by s v ring m t e = ap (turnedBy (s .posts) v ring m) e
 
 -- a turn that ends
 pub stops : (s : Scene) (v : View) (ring : List ℕ) (m : Machine) (e : End) → turn s v m (wordsIn ring v) ≡ ends e
     → record { stop = some e; view = v; ring = ring; machine = m } ≡ turned s v ring m
 stops s v ring m e q = sym (turned-by s v ring m (ends e) q)
 
--- a command was executed, STOP passed it, and ring word 3 says so
+-- a command was executed, STOP passed it, ring word 3 says so, and word 6 has what is posted
 pub goes-on : (s : Scene) (v : View) (ring : List ℕ) (m : Machine) (n : ℕ) (u : Machine) → turn s v m (wordsIn ring v) ≡ exec n u
-    → record { stop = none; view = passedIn v n; ring = stamped (passedIn v n .at) ring; machine = u } ≡ turned s v ring m
-goes-on s v ring m n u q = sym (turned-by s v ring m (exec n u) q)
+    → (later : List ℕ) → later ≡ stamped (passedIn v n .at) (posting (s .posts) (u .posted) ring) → (t : Machine) → t ≡ u
+    → record { stop = none; view = passedIn v n; ring = later; machine = t } ≡ turned s v ring m
+goes-on s v ring m n u q later p t same = rw (p, same) (sym (turned-by s v ring m (exec n u) q))
 
 -- where STOP stands behind n words of a view
 pub stop-fits : {v : View} {m : ℕ} → InView v m → v .hi ≤ maxWords → (n : ℕ) → n ≤ v .n → passedIn v n .at ≤ maxWords
@@ -100,14 +103,18 @@ module _ (v : View) (ring : List ℕ) (cap : ℕ) (tail : Data) (head : List ℕ
     pub data-paints-nothing : (s : Scene) (screen : List ℕ) → screenAfter s a screen ≡ screen
     data-paints-nothing s screen = rw (sym (data-found .action), kind) (data-screen tail s w screen)
 
+    data-posts-nothing : (posts : Bool) (posted : ℕ) → postedAfter posts a posted ≡ posted
+    data-posts-nothing posts posted = rw (sym (data-found .action), kind) (data-posts tail posts w posted)
+
     -- what executing it leaves
     pub data-done : (s : Scene) (m : Machine) (marks : Marks) (cursor : List ℕ) → marks ≡ marksAfter a (m .marks) → cursor ≡ cursorAfter a w (m .cursor)
-        → done s a (take n w) m ≡ machine marks (m .screen) cursor
+        → done s a (take n w) m ≡ machine marks (m .screen) cursor (m .posted)
     unfolding done
     data-done s m marks cursor p q = λ i. record {
       screen = data-paints-nothing s (m .screen) i;
       cursor = (data-found .own (m .cursor) ∙ sym q) i;
       marks = sym p i;
+      posted = data-posts-nothing (s .posts) (m .posted) i;
     }
 
 -- ---- a line of the first ten words
@@ -126,51 +133,70 @@ module _ (t : Machine → List ℕ → Turn Machine) where
       (n, (ap (exec n) (ap (λ (r : LineRun Machine). r .line .machine) p), ap (λ (r : LineRun Machine). r .line .words) p))
 
 module _ (s : Scene) (v : View) (ring : List ℕ) (inside : InView v (length ring)) (carries : 10 + v .lo < v .hi)
-    {memory : List ℕ} {e : ℕ} (l : LineOf (wordsIn ring v) memory e)
-    {fence : ℕ} {screen : List ℕ} {at number left : ℕ} {memory′ screen′ : List ℕ} (g : RowGoing s 1 memory 4 e fence screen at number left memory′ screen′) where
+    {memory : List ℕ} {e : ℕ} (l : LineOf ring v memory e)
+    {fence : ℕ} {screen : List ℕ} {at number left : ℕ} {memory′ screen′ : List ℕ} (g : RowGoing s 1 memory 7 e fence screen at number left memory′ screen′) where
   abbrev all : List ℕ
   all = wordsIn ring v
 
   abbrev cap : ℕ
   cap = carried (v .lo) (v .hi)
 
-  whole-words : rowIn memory 4 e ++ drop 10 all ≡ all
+  whole-words : rowIn memory 7 e ++ drop 10 all ≡ all
   whole-words = ap (λ (w : List ℕ). w ++ drop 10 all) (l .row) ∙ take-append-drop 10 all
 
   long-all : length all ≡ v .n
   long-all = length-words ring (v .lo) (v .hi) (v .at) (v .n)
 
-  row-size : e - 4 ≡ length (take 10 all)
-  row-size = sym (row-length memory 4 e (omega (arith, l .size, l .high))) ∙ ap length (l .row)
+  row-size : e - 7 ≡ length (take 10 all)
+  row-size = sym (row-length memory 7 e (omega (arith, l .size, l .high))) ∙ ap length (l .row)
 
   short-all : length (take 10 all) + length (drop 10 all) ≡ length all
   short-all = sym (length-append (take 10 all) (drop 10 all)) ∙ ap length (take-append-drop 10 all)
 
-  few : e - 4 ≤ cap
+  few : e - 7 ≤ cap
   few = omega (arith, row-size, short-all, long-all, inside .held)
 
   wide : 10 ≤ cap
   wide = omega arith
 
-  pub line-fits : at - 4 ≤ v .n
+  pub line-fits : at - 7 ≤ v .n
   line-fits = omega (arith, g .within, row-size, short-all, long-all)
 
+  -- the line has what is posted in the ring
+  line-posted : (posts : Bool) → postedIn posts memory ≡ postedIn posts ring
+  unfolding postedIn
+  line-posted true = l .six
+  line-posted false = refl
+
   -- spent: the command was executed
-  pub line-spent : left ≡ 0 → (defined : Defined) (cursor : List ℕ)
-      → turn s v (machine (marked fence defined) screen cursor) all ≡ exec (at - 4) (machine (marked number defined) screen′ cursor)
+  line-spent : left ≡ 0 → (defined : Defined) (cursor : List ℕ)
+      → turn s v (machine (marked fence defined) screen cursor (postedIn (s .posts) ring)) all
+      ≡ exec (at - 7) (machine (marked number defined) screen′ cursor (postedIn (s .posts) memory′))
   line-spent z defined cursor =
-      let m = machine (marked fence defined) screen cursor in
-      let q = rw (whole-words, z) at (g .rest cap (drop 10 all) defined cursor wide few) in
+      let m = machine (marked fence defined) screen cursor (postedIn (s .posts) ring) in
+      let q = rw (whole-words, z, line-posted (s .posts)) at (g .rest cap (drop 10 all) defined cursor wide few) in
       let o = one-spent (turn s v) (line all m) _ _ q (turn s v m all) refl in
       let n = o .0 in
       let fits = command-laws knownOf (done s) cap wide .takes-whole m _ all n (o .1 .0) in
       let left-over : length all - n ≡ e - at + length (drop 10 all) =
       sym (length-drop n all) ∙ ap length (o .1 .1) ∙ length-append (rowIn memory at e) (drop 10 all) ∙ ap (λ k. k + length (drop 10 all)) (row-length memory at e (omega (arith, l .size, l .high))) in
-      let is : n ≡ at - 4 = omega (arith, left-over, row-size, short-all, fits, g .from, g .within, l .low) in
+      let is : n ≡ at - 7 = omega (arith, left-over, row-size, short-all, fits, g .from, g .within, l .low) in
       rw is at (o .1 .0)
 
+  -- what it posted in the line went to the ring, STOP passed it, and ring word 3 says so
+  pub line-goes : left ≡ 0 → (defined : Defined) (cursor posted later : List ℕ) → posted ≡ posting (s .posts) (postedIn (s .posts) memory′) ring
+      → later ≡ stamped (passedIn v (at - 7) .at) posted
+      → record { stop = none; view = passedIn v (at - 7); ring = later; machine = machine (marked number defined) screen′ cursor (postedIn (s .posts) later) }
+      ≡ turned s v ring (machine (marked fence defined) screen cursor (postedIn (s .posts) ring))
+  line-goes z defined cursor posted later p q =
+      let to = passedIn v (at - 7) .at in
+      let wrote = q ∙ ap (stamped to) p in
+      let there = posted-written (s .posts) to _ ring (λ t. omega (arith, inside .fits)) (posted-none (s .posts) memory′) in
+      goes-on s v ring _ _ _ (line-spent z defined cursor) later wrote _
+      (ap (machine (marked number defined) screen′ cursor) (ap (postedIn (s .posts)) wrote ∙ there))
+
   module _ (some-left : 1 ≤ left) where
-    kept : (at ≡ 4) × (number ≡ fence) × (screen′ ≡ screen)
+    kept : (at ≡ 7) × (number ≡ fence) × (screen′ ≡ screen)
     kept = g .still (omega (arith, g .bounded))
 
     pub line-kept : screen′ ≡ screen

@@ -1,9 +1,10 @@
--- A run: document 01, "One command out of the ring".
-use Prim.Native.Nat.{ℕ, _-_, _*_, _/_}
+-- A run: document 01, "One command out of the ring", and document 02, P1: "The fence where guests look".
+use Prim.Native.Nat.{ℕ, _-_, _*_, _/_, _<_}
+use mathlib.Core.Path.{_≡_}
 use mathlib.Core.Bool.{Bool, cond, _&&_}
 use mathlib.Core.List.{List}
 use lib.Dec.{eqb, leb}
-use lib.ListN.{length, set}
+use lib.ListN.{length, getD, set}
 use Rattle.execution.specs.declared.End.the-variants.{Fault}
 use Rattle.execution.specs.declared.Cause.the-variants.{BadNext}
 use Rattle.execution.specs.Straight.{ends}
@@ -15,7 +16,8 @@ use Rattle.cursor.specs.Plane.{imageWords}
 use Rattle.ring.specs.declared.Ring.{Ring}
 use Rattle.ring.specs.Acceptance.{nextOf, maxWords}
 use Rattle.ring.specs.Waiting.{ahead, waiting, carried, placed, nextGood}
-use Rattle.command.specs.Commands.{Known, commands}
+use Rattle.command.specs.declared.Kind.the-variants.{Fence}
+use Rattle.command.specs.Commands.{Known, kindIn, commands}
 use Rattle.effect.specs.declared.Marks.{Marks}
 use Rattle.effect.specs.Effects.{Scene, Machine, done}
 use Rattle.run.specs.declared.RunEnd.{RunEnd}
@@ -23,8 +25,8 @@ use Rattle.run.specs.declared.RunEnd.the-variants.{Spent, Ended}
 use Rattle.run.specs.declared.RingRun.{RingRun}
 
 -- The machine of straight execution, from what the code holds.
-abbrev pub machine : Marks → List ℕ → List ℕ → Machine
-machine marks screen cursor = record { screen = screen; cursor = cursor; marks = marks }
+abbrev pub machine : Marks → List ℕ → List ℕ → ℕ → Machine
+machine marks screen cursor posted = record { screen = screen; cursor = cursor; marks = marks; posted = posted }
 
 -- What the commands' checks know of it.
 abbrev pub knownOf : Machine → Known
@@ -39,13 +41,29 @@ table s = commands knownOf (done s)
 unfoldable pub turnIn : Scene → Ring → ℕ → Machine → List ℕ → O.Turn Machine
 turnIn s g next m w = unless (nextGood g next) (ends (Fault BadNext)) (turnOf (carried (g .min) (g .max)) (table s) m w)
 
+-- No FENCE is among the first k commands that a line executes.
+abbrev pub NoFence : (Machine → List ℕ → O.Turn Machine) → ℕ → O.Line Machine → Type 0
+NoFence turn k a = (j : ℕ) → j < k → kindIn (O.straight turn j a .words) ≡ Fence → ⊥
+
 -- "STOP passes it": n words on.
 abbrev pub passed : Ring → ℕ → Ring
 passed g n = record { min = g .min; max = g .max; stop = ahead (g .min) (g .max) (g .stop) n }
 
--- "ring word 3 is written": all that a run writes into ring words, in bytes, where STOP has come to this word.
+-- "ring word 3 is written", in bytes, where STOP has come to this word.
 unfoldable pub stamped : ℕ → List ℕ → List ℕ
 stamped stop ring = set ring 3 (stop * 4)
+
+-- "When MIN is 28 or more", which is seven words: whether fences are posted in word 6. It goes by the remembered MIN.
+abbrev pub postsIn : Ring → Bool
+postsIn g = leb 7 (g .min)
+
+-- "an executed FENCE also writes its number to word 6; below that, as today": there word 6 is a word of the ring, and a run never writes it.
+unfoldable pub posting : Bool → ℕ → List ℕ → List ℕ
+posting posts number ring = cond posts (set ring 6 number) ring
+
+-- What is posted in a ring memory, where fences are: its word 6.
+unfoldable pub postedIn : Bool → List ℕ → ℕ
+postedIn posts ring = cond posts (getD ring 6 0) 0
 
 -- What a run gives: its answer, "the number of commands consumed in this run", and all that it can change.
 pub record RingOutcome : Type 0 where
@@ -59,16 +77,17 @@ abbrev pub answerOf : RunEnd → Claim.Answer
 answerOf Spent = Claim.spent
 answerOf (Ended e) = Claim.ended e
 
+-- From what the code gives, and the memories at its exit: what is posted stands in the ring.
 abbrev pub ringOutcome : RingRun → List ℕ → List ℕ → List ℕ → RingOutcome
 ringOutcome r ring screen cursor = record {
   answer = answerOf (r .answer);
   count = r .count;
   place = r .ring;
   ring = ring;
-  machine = machine (r .marks) screen cursor;
+  machine = machine (r .marks) screen cursor (postedIn (postsIn (r .ring)) ring);
 }
 
--- STOP has passed the words that turns dropped. "The run changes no other ring word, and none if it consumed nothing."
+-- STOP has passed the words that turns dropped. "A run then changes words 3 and 6 only", "and none if it consumed nothing".
 unfoldable pub left : Ring → List ℕ → List ℕ → Turns.LineRun Machine → RingOutcome
 left g ring words r =
     let to = passed g (length words - length (r .line .words)) in
@@ -76,7 +95,7 @@ left g ring words r =
       answer = r .answer;
       count = r .count;
       place = to;
-      ring = cond (eqb (r .count) 0) ring (stamped (to .stop) ring);
+      ring = cond (eqb (r .count) 0) ring (stamped (to .stop) (posting (postsIn g) (r .line .machine .posted) ring));
       machine = r .line .machine;
     }
 

@@ -1,9 +1,9 @@
 -- The words that wait in a ring memory, as a run walks over them: document 01, "One command out of the ring". Nothing here has to be believed.
 use Prim.Native.Nat.{ℕ, _+_, _-_, _*_, _/_, _≤_, _<_}
-use mathlib.Core.Bool.{cond}
+use mathlib.Core.Bool.{Bool, true, cond}
 use mathlib.Core.List.{List}
 use lib.Dec.{ltb, eqb}
-use lib.ListN.{length, take, drop}
+use lib.ListN.{length, take, drop, getD}
 use mathlib.Core.Path.{_≡_}
 use Rattle.cursor.specs.Plane.{maxSide, imageWords}
 use Rattle.ring.specs.declared.Ring.{Ring}
@@ -18,6 +18,11 @@ use Rattle.execution.specs.declared.Cause.the-variants.{BadNext}
 use Rattle.execution.specs.declared.End.the-variants.{Fault}
 use Rattle.effect.specs.declared.Marks.{Marks}
 use Rattle.execution.specs.Claim as Claim
+use Rattle.run.specs.Run.{postsIn}
+
+-- The remembered ring of a view.
+abbrev pub placeOf : View → Ring
+placeOf v = record { min = v .lo; max = v .hi; stop = v .at }
 
 -- The words of a view.
 abbrev pub wordsIn : List ℕ → View → List ℕ
@@ -30,13 +35,14 @@ pub record InView (v : View) (m : ℕ) : Type 0 where
   pub held : v .n + v .lo < v .hi
   pub fits : v .hi ≤ m
 
--- A view from which a run may start, with the lent ring and cursor image.
-pub record Stands (v : View) (ring cursor : List ℕ) : Type 0 where
+-- A view from which a run may start, with the lent ring and cursor image. Fences are posted in word 6 as MIN has it.
+pub record Stands (posts : Bool) (v : View) (ring cursor : List ℕ) : Type 0 where
   pub inside : InView v (length ring)
   pub low : 4 ≤ v .lo
   pub small : v .hi ≤ maxWords
   pub carries : 10 + v .lo < v .hi
   pub image : length cursor ≡ imageWords
+  pub posted : posts ≡ postsIn (placeOf v)
 
 -- A view behind its first k words.
 abbrev pub passedIn : View → ℕ → View
@@ -65,16 +71,17 @@ rowIn memory a e = take (e - a) (drop a memory)
 unfoldable pub rowEnd : View → ℕ
 rowEnd v = cond (ltb (v .at + v .n) (v .hi)) (v .at + v .n) (v .hi - 1)
 
--- The first ten words, or all where there are fewer, in a row from word 4 of a line up to word e.
-pub record LineOf (words line : List ℕ) (e : ℕ) : Type 0 where
-  pub size : length line ≡ 14
-  pub low : 4 ≤ e
-  pub high : e ≤ 14
-  pub row : rowIn line 4 e ≡ take 10 words
+-- Where fences are posted in word 6, words from this one on lie behind it.
+abbrev pub Clear : Bool → ℕ → Type 0
+Clear posts at = posts ≡ true → 7 ≤ at
 
--- The remembered ring of a view.
-abbrev pub placeOf : View → Ring
-placeOf v = record { min = v .lo; max = v .hi; stop = v .at }
+-- The first ten words of a view, or all where there are fewer, in a row from word 7 of a line up to word e. Word 6 is the ring's.
+pub record LineOf (ring : List ℕ) (v : View) (line : List ℕ) (e : ℕ) : Type 0 where
+  pub size : length line ≡ 17
+  pub low : 7 ≤ e
+  pub high : e ≤ 17
+  pub row : rowIn line 7 e ≡ take 10 (wordsIn ring v)
+  pub six : getD line 6 0 ≡ getD ring 6 0
 
 -- What the code gives that ended at a view.
 abbrev pub ranTo : View → RunEnd → ℕ → Marks → RingRun

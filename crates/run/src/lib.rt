@@ -10,6 +10,7 @@ use execution::End;
 use ring::MAX_WORDS;
 use ring::Ring;
 ghost use mathlib.Core.Path.{_≡_};
+ghost use mathlib.Core.Bool.{true};
 ghost use Prim.Native.Nat.{_+_, _/_, _≤_, _<_};
 ghost use mathlib.Core.List.{_++_};
 ghost use lib.ListN.{length, getD, take, drop};
@@ -20,11 +21,11 @@ ghost use Rattle.ring.specs.Acceptance.{maxWords};
 ghost use Rattle.ring.specs.Waiting.{between, words, carried};
 ghost use Rattle.command.specs.Commands.{kindIn};
 ghost use Rattle.command.specs.Findings.{kindWith};
-ghost use Rattle.effect.specs.Effects.{scene, cursorAfter};
+ghost use Rattle.effect.specs.Effects.{scene, postedAfter, cursorAfter};
 ghost use Rattle.run.specs.declared.Stop.the-variants.{Goes, Stops};
-ghost use Rattle.run.specs.Turns.{InView, Stands, wordsIn, passedIn, viewOf, Ready, rowEnd, LineOf, placeOf, ranTo, nextUnusable};
+ghost use Rattle.run.specs.Turns.{InView, Stands, wordsIn, passedIn, viewOf, Ready, rowEnd, Clear, LineOf, placeOf, ranTo, nextUnusable};
 ghost use Rattle.run.specs.Going.{RowRun, pauseOf, after, turned, DataTurned};
-ghost use Rattle.run.specs.Run.{machine, table, stamped, ringOutcome, runWords, fitting, answerOf, runIn};
+ghost use Rattle.run.specs.Run.{machine, table, stamped, postsIn, posting, postedIn, ringOutcome, runWords, fitting, answerOf, runIn};
 
 // The words that wait in a ring from word lo to below word hi: n of them, from word at on.
 struct View {
@@ -79,12 +80,39 @@ fn view_of(at: Ring, next: u32) -> View
 
 // ---- a command executed
 
-// "ring word 3 is written": the only function that writes ring words. STOP has come to word at.
+// "ring word 3 is written": the only function that writes it. STOP has come to word at.
 fn stamp(ring: &mut [u32], at: usize)
     requires { ⌜ (4 ≤ length (now ring)) × (at ≤ maxWords) ⌝ }
     ensures { λ _. ⌜ now (ring .exit) ≡ stamped at (now (ring .entry)) ⌝ }
 {
     ring[3] = (at * 4) as u32;
+}
+
+// "an executed FENCE also writes its number to word 6": the only function that writes it.
+fn post(ring: &mut [u32], number: u32)
+    requires { ⌜ 7 ≤ length (now ring) ⌝ }
+    ensures { λ _. ⌜ now (ring .exit) ≡ posting true number (now (ring .entry)) ⌝ }
+{
+    ring[6] = number;
+}
+
+// Word 6's part of an action, where fences are posted there.
+fn post_fence(action: Action, posts: bool, ring: &mut [u32])
+    requires { ⌜ Clear posts (length (now ring)) ⌝ }
+    ensures { λ _. ⌜ now (ring .exit) ≡ posting posts (postedAfter posts action (postedIn posts (now (ring .entry)))) (now (ring .entry)) ⌝ }
+{
+    match action {
+        Action::Update(_) => {}
+        Action::Fill(_, _, _) => {}
+        Action::Copy(_, _, _) => {}
+        Action::Define(_) => {}
+        Action::Fence(number) => {
+            if posts {
+                post(ring, number);
+            }
+        }
+        Action::Nothing => {}
+    }
 }
 
 // n words of the ring from word from on, into an image from word to on.
@@ -223,14 +251,15 @@ fn row_turns(
     end: usize,
     before: u32,
     budget: u32,
+    posts: bool,
     memory: &mut [u32],
     framebuffer: &[u32],
     screen: &mut [u32],
     width: u32,
     rows: u32,
 ) -> Paused
-    requires { ⌜ (4 ≤ from) × (from ≤ end) × (end ≤ length (now memory)) × (end ≤ maxWords) ⌝ }
-    ensures { λ r. ⌜ RowRun (scene width rows (now (framebuffer .entry))) budget (now (memory .entry)) from end before (now (screen .entry))
+    requires { ⌜ (4 ≤ from) × (from ≤ end) × (end ≤ length (now memory)) × (end ≤ maxWords) × Clear posts from ⌝ }
+    ensures { λ r. ⌜ RowRun (scene width rows (now (framebuffer .entry)) posts) budget (now (memory .entry)) from end before (now (screen .entry))
         r (now (memory .exit)) (now (screen .exit)) ⌝ }
 {
     let mut at = from;
@@ -249,6 +278,7 @@ fn row_turns(
         };
         effect::draw(action, framebuffer, screen, width, rows);
         fence = effect::fence_after(action, fence);
+        post_fence(action, posts, memory);
         at += size;
         stamp(memory, at);
         left -= 1;
@@ -325,7 +355,7 @@ fn data_turn(
     ring: &mut [u32],
     cursor: &mut [u32],
 ) -> Turned
-    requires { ⌜ Stands v (now ring) (now cursor) ⌝ }
+    requires { ⌜ Stands (postsIn (placeOf v)) v (now ring) (now cursor) ⌝ }
     requires { ⌜ (1 ≤ v .n) × (now head ≡ take 10 (wordsIn (now ring) v)) × (kindIn (wordsIn (now ring) v) ≡ kindWith tail) ⌝ }
     ensures { λ r. ⌜ DataTurned v marks (now (ring .entry)) (now (cursor .entry)) r (now (ring .exit)) (now (cursor .exit)) ⌝ }
 {
@@ -345,28 +375,43 @@ fn data_turn(
     }
 }
 
-// The first ten words of a view, or all of them where fewer wait, in a row from word 4 of a line on; where they end there.
+// The first ten words of a view, or all of them where fewer wait, in a row from word 7 of a line on, behind the ring's word 6; where they end there.
 fn fill_line(ring: &[u32], v: View, line: &mut [u32]) -> usize
     requires { ⌜ InView v (length (now ring)) ⌝ }
-    requires { ⌜ length (now line) ≡ 14 ⌝ }
-    ensures { λ r. ⌜ LineOf (wordsIn (now (ring .entry)) v) (now (line .exit)) r ⌝ }
+    requires { ⌜ (7 ≤ length (now ring)) × (length (now line) ≡ 17) ⌝ }
+    ensures { λ r. ⌜ LineOf (now (ring .entry)) v (now (line .exit)) r ⌝ }
 {
+    line[6] = ring[6];
     let n = v.n;
     let lo = v.lo;
     let hi = v.hi;
     let at = v.at;
     if n < 10 {
-        copy_words(ring, lo, hi, at, n, line, 4);
-        return n + 4;
+        copy_words(ring, lo, hi, at, n, line, 7);
+        return n + 7;
     }
-    copy_words(ring, lo, hi, at, 10, line, 4);
-    14
+    copy_words(ring, lo, hi, at, 10, line, 7);
+    17
+}
+
+// What a line's command posted there, into the ring. A command that posts nothing leaves word 6 unwritten.
+fn bring_posted(line: &[u32], posts: bool, ring: &mut [u32])
+    requires { ⌜ (7 ≤ length (now line)) × (7 ≤ length (now ring)) ⌝ }
+    ensures { λ _. ⌜ now (ring .exit) ≡ posting posts (postedIn posts (now (line .entry))) (now (ring .entry)) ⌝ }
+{
+    if posts {
+        let number = line[6];
+        if number != ring[6] {
+            post(ring, number);
+        }
+    }
 }
 
 // One turn, wherever its words lie: they go through the same loop, as a line of ten words with a budget of 1.
 fn one_turn(
     v: View,
     marks: Marks,
+    posts: bool,
     ring: &mut [u32],
     framebuffer: &[u32],
     screen: &mut [u32],
@@ -374,21 +419,23 @@ fn one_turn(
     width: u32,
     rows: u32,
 ) -> Turned
-    requires { ⌜ Stands v (now ring) (now cursor) ⌝ }
-    ensures { λ r. ⌜ after r (now (ring .exit)) (now (screen .exit)) (now (cursor .exit))
-        ≡ turned (scene width rows (now (framebuffer .entry))) v (now (ring .entry)) (machine marks (now (screen .entry)) (now (cursor .entry))) ⌝ }
+    requires { ⌜ Stands posts v (now ring) (now cursor) ⌝ }
+    ensures { λ r. ⌜ after posts r (now (ring .exit)) (now (screen .exit)) (now (cursor .exit))
+        ≡ turned (scene width rows (now (framebuffer .entry)) posts) v (now (ring .entry))
+        (machine marks (now (screen .entry)) (now (cursor .entry)) (postedIn posts (now (ring .entry)))) ⌝ }
 {
     let n = v.n;
     if n == 0 {
         return stopped(v, marks, End::Drained);
     }
-    let mut line = [0u32; 14];
+    let mut line = [0u32; 17];
     let end = fill_line(ring, v, &mut line);
     let p = row_turns(
-        4,
+        7,
         end,
         marks.fence,
         1,
+        posts,
         &mut line,
         framebuffer,
         screen,
@@ -397,18 +444,21 @@ fn one_turn(
     );
     let why = p.why;
     match why {
-        Pause::Spent => return executed(
-            v,
-            p.at - 4,
-            Marks {
-                fence: p.fence,
-                ..marks
-            },
-            ring,
-        ),
+        Pause::Spent => {
+            bring_posted(&line, posts, ring);
+            return executed(
+                v,
+                p.at - 7,
+                Marks {
+                    fence: p.fence,
+                    ..marks
+                },
+                ring,
+            );
+        }
         Pause::Short => return stopped(v, marks, End::Waiting),
         Pause::Faults(cause) => return stopped(v, marks, End::Fault(cause)),
-        Pause::Long(tail) => return data_turn(v, marks, tail, &line[4..end], ring, cursor),
+        Pause::Long(tail) => return data_turn(v, marks, tail, &line[7..end], ring, cursor),
     }
 }
 
@@ -432,17 +482,19 @@ fn turns(
     view: View,
     before: Marks,
     budget: u32,
+    posts: bool,
     ring: &mut [u32],
     framebuffer: &[u32],
     screen: &mut [u32],
     cursor: &mut [u32],
-    width: u32,
-    rows: u32,
+    w: u32,
+    h: u32,
 ) -> RingRun
-    requires { ⌜ Stands view (now ring) (now cursor) ⌝ }
+    requires { ⌜ Stands posts view (now ring) (now cursor) ⌝ }
     ensures { λ r. ⌜ ringOutcome r (now (ring .exit)) (now (screen .exit)) (now (cursor .exit))
-        ≡ runWords (turnOf (carried (view .lo) (view .hi)) (table (scene width rows (now (framebuffer .entry))))) (placeOf view) budget
-        (now (ring .entry)) (wordsIn (now (ring .entry)) view) (machine before (now (screen .entry)) (now (cursor .entry))) ⌝ }
+        ≡ runWords (turnOf (carried (view .lo) (view .hi)) (table (scene w h (now (framebuffer .entry)) posts))) (placeOf view) budget
+        (now (ring .entry)) (wordsIn (now (ring .entry)) view)
+        (machine before (now (screen .entry)) (now (cursor .entry)) (postedIn posts (now (ring .entry)))) ⌝ }
 {
     let mut v = view;
     let mut marks = before;
@@ -455,17 +507,18 @@ fn turns(
             end,
             marks.fence,
             left,
+            posts,
             ring,
             framebuffer,
             screen,
-            width,
-            rows,
+            w,
+            h,
         );
         v = pass(v, p.at - from);
         marks.fence = p.fence;
         left = p.left;
         if 0 < left {
-            let t = one_turn(v, marks, ring, framebuffer, screen, cursor, width, rows);
+            let t = one_turn(v, marks, posts, ring, framebuffer, screen, cursor, w, h);
             let stop = t.stop;
             match stop {
                 Stop::Goes => {
@@ -507,8 +560,16 @@ fn next_unusable(budget: u32) -> RunEnd
     RunEnd::Ended(End::Fault(Cause::BadNext))
 }
 
+// "When MIN is 28 or more", which is seven words: whether fences are posted in word 6.
+fn posts_in(at: Ring) -> bool
+    ensures { λ r. ⌜ r ≡ postsIn at ⌝ }
+{
+    7 <= at.min
+}
+
 // Commands out of the ring, with MIN, MAX and STOP as they are remembered. The mode is width by rows.
-// Rules out: MIN, MAX or STOP read again from the ring; 13 before the budget; a count that is not that of the commands consumed; ring words but word 3 changed.
+// Rules out: MIN, MAX or STOP read again from the ring; 13 before the budget; a count that is not that of the commands consumed; ring words but words 3 and,
+// where fences are posted, 6 changed; a fence that is not the last posted.
 pub fn run(
     at: Ring,
     marks: Marks,
@@ -521,7 +582,8 @@ pub fn run(
     rows: u32,
 ) -> RingRun
     ensures { λ r. ⌜ ringOutcome r (now (ring .exit)) (now (screen .exit)) (now (cursor .exit))
-        ≡ runIn (scene width rows (now (framebuffer .entry))) at budget (now (ring .entry)) (machine marks (now (screen .entry)) (now (cursor .entry))) ⌝ }
+        ≡ runIn (scene width rows (now (framebuffer .entry)) (postsIn at)) at budget (now (ring .entry))
+        (machine marks (now (screen .entry)) (now (cursor .entry)) (postedIn (postsIn at) (now (ring .entry)))) ⌝ }
 {
     let fits = is_fitting(at, ring.len(), cursor.len());
     if !fits {
@@ -543,10 +605,12 @@ pub fn run(
         };
     }
     let view = view_of(at, next);
+    let posts = posts_in(at);
     turns(
         view,
         marks,
         budget,
+        posts,
         ring,
         framebuffer,
         screen,

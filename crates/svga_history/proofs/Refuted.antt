@@ -3,15 +3,18 @@
 use mathlib.Core.Path.{_≡_, refl, sym, _∙_, ap}
 use mathlib.Core.Bool.{true, true≢false}
 use mathlib.Core.List.{List, [], _∷_}
-use Prim.Native.Nat.{ℕ}
+use mathlib.Core.Logic.{⊎-elim}
+use Prim.Native.Nat.{ℕ, _≤_, _<_}
 use native.Mathlib.Omega.{arith}
 use lib.ListN.{length, getD, replicate}
+use Rattle.ring.specs.declared.Ring.{Ring}
 use Rattle.ring.specs.Acceptance.{offsetUsable, boundsUsable, usable}
+use Rattle.device.specs.declared.Condition.the-variants.{Running}
 use Rattle.device.specs.Device.{sizesGood, wellFormed}
 use Rattle.device_run.specs.Run.{Lent, lent}
 use Rattle.device_words.specs.declared.Held.the-variants.{Device as Holds, Nothing}
 use Rattle.device_words.specs.Words.{definedParts, conditionParts, wordsOf, definedFrom, conditionFrom, deviceFrom, spelledIn, heldIn}
-use Rattle.history.specs.Calls.{write, read, fence, append}
+use Rattle.history.specs.Calls.{write, read, run, fence, append}
 use Rattle.history.specs.Demand.{isStart}
 use Rattle.history.specs.Keeping.{starting}
 use Rattle.svga_history.specs.WordCalls.{Host, host, worldIn, HoldsDevice, outcome, performWordsAll, WordHost}
@@ -59,6 +62,12 @@ no-edge device output values l s = omega (arith, ap (λ (e : List ℕ). getD e 0
 
 pub no-loss : (output edges values : List ℕ) (l z : Lent) → SafeWords (append 7) (host (0 ∷ []) l output edges) (outcome 0 values (host [] z output edges)) → ⊥
 no-loss output edges values l z s = omega (arith, ap (λ (w : List ℕ). length w) (s .device))
+
+-- a run that writes ring word 6 where the remembered MIN is below 28
+pub no-posting : (h z : Host) (a budget : ℕ) (values : List ℕ) (g : Ring) → HoldsDevice h → worldIn h .device .condition ≡ Running g → g .min < 7
+    → (getD (z .lent .ring) 6 0 ≡ getD (h .lent .ring) 6 0 → ⊥) → SafeWords (run budget) h (outcome a values z) → ⊥
+no-posting h z a budget values g there is low other s =
+    other (s .lent there .ring .elsewhere 6 (⊎-elim (λ e. omega arith) (λ e. let n : 7 ≤ g .min = rw is at (e .1) in omega arith)))
 
 -- ---- a host that meets the conditions
 

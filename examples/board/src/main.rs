@@ -12,7 +12,7 @@ mod pointer;
 
 use std::path::Path;
 use std::{env, fs, process};
-use svga::{cursor_on, reg, rop, Adapter, Command, Error, Rect};
+use svga::{cursor_on, limit, reg, rop, Adapter, Command, Error, Rect};
 
 const WIDTH: u32 = 640;
 const HEIGHT: u32 = 360;
@@ -205,14 +205,15 @@ impl Board {
         Ok(())
     }
 
-    /// Appends a fence and runs until it has passed: then all before it is on the screen.
+    /// Appends a fence and runs until it stands in ring word 6, where guests look: then all before it is on the screen.
     fn wait(&mut self, fence: u32) -> Result<(), Error> {
         self.adapter.submit(&Command::Fence(fence))?;
-        while !self.adapter.fence_passed(fence) {
+        while self.adapter.posted_fence() != Some(fence) {
             let run = self.adapter.run(64)?;
             if let Some(fault) = run.fault() {
                 return Err(Error::FaultStands(fault));
             }
+            assert_ne!(run.count, 0, "the ring is empty and no fence is posted: libsvga.a is older than this program");
         }
         Ok(())
     }
@@ -221,7 +222,7 @@ impl Board {
 /// The board as an adapter shows it.
 fn draw() -> Result<Adapter, Error> {
     let mut board = Board { adapter: Adapter::new(65_536, WIDTH * HEIGHT)? };
-    board.adapter.start(WIDTH, HEIGHT)?;
+    board.adapter.start_at(limit::RING_START_FENCE, WIDTH, HEIGHT)?;
     board.axes()?;
     board.tide()?;
     board.turn()?;
@@ -317,7 +318,7 @@ mod tests {
     #[test]
     fn nothing_is_left_in_the_ring() {
         let mut adapter = draw().unwrap();
-        assert_eq!(adapter.fence(), 1);
+        assert_eq!((adapter.fence(), adapter.posted_fence()), (1, Some(1)));
         assert_eq!(adapter.run(1).unwrap().to_string(), "drained, 0 commands consumed");
     }
 }

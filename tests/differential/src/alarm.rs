@@ -15,13 +15,13 @@ extern "C" {
     fn _exit(status: i32) -> !;
 }
 
-/// The number that stands for document 01's numbers.
+/// The number that stands for the documents' numbers.
 const CASES: u64 = u64::MAX;
 
 extern "C" fn ended(number: i32) {
     let what: &[u8] = if number == SIGALRM { b"failed: no end in " } else { b"failed: a crash in " };
     let sequence = SEQUENCE.load(Ordering::Relaxed);
-    let place: &[u8] = if sequence == CASES { b"document 01's numbers\n" } else { b"sequence " };
+    let place: &[u8] = if sequence == CASES { b"the documents' numbers\n" } else { b"sequence " };
     // SAFETY: write and _exit may be called in a handler; the bytes outlive the calls.
     unsafe {
         write(1, what.as_ptr(), what.len());
@@ -61,7 +61,7 @@ pub fn install() {
     }
 }
 
-/// Document 01's numbers begin.
+/// The documents' numbers begin.
 pub fn set_cases() {
     set(CASES);
 }

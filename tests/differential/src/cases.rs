@@ -1,4 +1,4 @@
-//! Document 01's "Numbers to hold against it" and its console example, on the library and the model.
+//! Document 01's "Numbers to hold against it" and its console example, and numbers for 02's P1, on the library and the model.
 
 use crate::alarm;
 use crate::counts::Counts;
@@ -34,18 +34,39 @@ impl Bench {
         self.step(Step::Write { lengths, index, value }).0
     }
 
-    /// A device with the smallest ring, empty, enabled and configured, and a mode that fills the pixels; everything else zero.
-    fn fresh(&mut self, width: u32, height: u32) {
+    /// A device with these ring words, enabled and configured, and a mode that fills the pixels.
+    fn accepted(&mut self, ring: [u32; 4], width: u32, height: u32) {
         self.pair = Pair::new(Model::new(None), self.exact);
-        let pixels = width * height;
-        self.step(Step::Memories { ring: MEMORY as usize / 4, pixels: pixels as usize, fill: 0 });
+        let (memory, pixels) = (ring[1], width * height);
+        self.step(Step::Memories { ring: memory as usize / 4, pixels: pixels as usize, fill: 0 });
         let lengths = self.pair.right_lengths();
-        self.step(Step::Make { lengths, memory: MEMORY, pixels });
-        self.step(Step::Ring { place: 0, words: vec![16, MAX, 16, 16] });
+        self.step(Step::Make { lengths, memory, pixels });
+        self.step(Step::Ring { place: 0, words: ring.to_vec() });
         for (index, value) in [(2, width), (3, height), (1, 1), (20, 1)] {
             self.write(index, value);
         }
+    }
+
+    /// The smallest ring, empty; everything else zero.
+    fn fresh(&mut self, width: u32, height: u32) {
+        self.accepted([16, MAX, 16, 16], width, height);
         self.run(&[2, 0, 0, 0, ALL, ALL], ALL);
+    }
+
+    /// Runs these words in a ring of this MIN that was accepted empty, with STOP so many words before its end. The guest writes 99 to ring
+    /// word 6 before and rewrites ring word 0 after that. Gives the answer, the ring words that the run changed, and ring word 6.
+    fn posting(&mut self, min: u32, before_end: u32, word_0: u32, words: &[u32]) -> ((u64, u64), Vec<usize>, u32) {
+        let max = min + 10_240;
+        self.accepted([min, max, max - 4 * before_end, max - 4 * before_end], 1, 1);
+        self.step(Step::Ring { place: 6, words: vec![99] });
+        self.write(20, 1);
+        self.append(words);
+        self.step(Step::Ring { place: 0, words: vec![word_0] });
+        let ring = |bench: &Bench| bench.pair.expected.ring.first(max as usize / 4).to_vec();
+        let before = ring(self);
+        let answered = self.run(&[], ALL);
+        let after = ring(self);
+        (answered, (0..before.len()).filter(|&place| before[place] != after[place]).collect(), after[6])
     }
 
     fn append(&mut self, words: &[u32]) {
@@ -181,9 +202,39 @@ pub fn hold(exact: bool) -> bool {
     let answered = b.run(&[2, 255, 30, 31, 4_294_967_295, 5], 9);
     b.holds("the console example", answered == (0, 1) && b.screen(1024)[1021..] == [0, 255, 255]);
 
-    for line in &b.failed {
-        println!("failed: document 01's numbers: {line}");
+    // 02's P1: in a row of words, over the ring's end and up to it, in rings of each MIN.
+    for (min, posts) in [(16, false), (20, false), (24, false), (28, true), (32, true), (64, true)] {
+        for before_end in [40, 2, 1] {
+            // With MIN 24 the number of a FENCE over the ring's end is itself ring word 6.
+            let kept = if min == 24 && before_end == 1 { 7 } else { 99 };
+            let expected = if posts { (vec![3, 6], 7) } else { (vec![3], kept) };
+            let (answered, changed, word_6) = b.posting(min, before_end, min, &[30, 7]);
+            b.holds("P1, where fences are posted", answered == (0, 1) && (changed, word_6) == expected);
+        }
     }
-    println!("passed: {} of document 01's numbers, {} calls", b.held, b.counts.calls);
+    for (min, word_0, word_6) in [(28, 24, 7), (28, 0, 7), (28, ALL, 7), (24, 28, 99), (16, ALL, 99)] {
+        let found = b.posting(min, 40, word_0, &[30, 7]);
+        b.holds("P1, the remembered MIN decides", found.0 == (0, 1) && found.2 == word_6);
+    }
+    // The last fence is 7 already, and the guest has written 99 to ring word 6.
+    b.posting(28, 40, 28, &[30, 7]);
+    let found = b.posting(28, 40, 28, &[30, 7]);
+    b.holds("P1, a fence that comes again", found == ((0, 1), vec![3, 6], 7));
+    for (words, answer, changed, word_6) in [
+        (&[][..], (0, 0), vec![], 99),
+        (&[2, 1, 0, 0, 1, 1], (0, 1), vec![3], 99),
+        (&[30], (1, 0), vec![], 99),
+        (&[30, 7, 30, 0], (0, 2), vec![3, 6], 0),
+        (&[30, 7, 30, 8, 20], (10, 2), vec![3, 6], 8),
+        (&[20], (10, 0), vec![], 99),
+    ] {
+        let found = b.posting(28, 40, 28, words);
+        b.holds("P1, what a run writes", found == (answer, changed, word_6));
+    }
+
+    for line in &b.failed {
+        println!("failed: the documents' numbers: {line}");
+    }
+    println!("passed: {} of the documents' numbers, {} calls", b.held, b.counts.calls);
     b.failed.is_empty()
 }

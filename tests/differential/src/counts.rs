@@ -56,6 +56,10 @@ const EMPTY_MINIMUM: u64 = 7000;
 const FILL_MINIMUM: u64 = 5000;
 const OVERLAP_MINIMUM: u64 = 80;
 const CURSOR_MINIMUM: u64 = 150;
+/// For each MIN; for each one with words of the FENCE on both sides of the ring's end.
+const FENCE_MINIMUM: u64 = 40_000;
+const STRADDLED_FENCE_MINIMUM: u64 = 150;
+const MINS: [&str; 6] = ["16", "20", "24", "28", "32", "above"];
 
 /// Painting commands: the first five and UPDATE_VERBOSE.
 const PAINTING: [usize; 6] = [0, 1, 2, 3, 4, 6];
@@ -96,6 +100,10 @@ events! {
     CursorPartly: "cursors drawn partly outside", 9000;
     CursorOutside: "cursors shown wholly outside", 10_000;
     CursorHidden: "pictures without a cursor, though one is defined", 20_000;
+    PostedAgainstWord0: "runs that posted a fence with ring word 0 below 28", 1000;
+    KeptAgainstWord0: "runs that executed a FENCE and posted none with ring word 0 at 28 or more", 1000;
+    NotPosted: "runs with MIN 28 or more that executed commands and no FENCE", 100_000;
+    PostedThenFault: "faults after a posted fence of the same run", 3000;
     FencePassed: "fences passed", 4000;
     FenceNotPassed: "fences not passed", 4000;
     LengthDevice: "20 by the device's length", 8000;
@@ -126,6 +134,9 @@ pub struct Counts {
     overlaps: [[u64; 9]; 16],
     cursor_widths: [u64; 65],
     cursor_heights: [u64; 65],
+    /// Fences by the remembered MIN, as `MINS` has them, and those of them that straddled the ring's end.
+    fences: [u64; MINS.len()],
+    straddled_fences: [u64; MINS.len()],
     malformed: [u64; 9],
     events: [u64; EVENTS.len()],
     /// The last run waited for the rest of a command.
@@ -166,6 +177,8 @@ impl Counts {
             overlaps: [[0; 9]; 16],
             cursor_widths: [0; 65],
             cursor_heights: [0; 65],
+            fences: [0; MINS.len()],
+            straddled_fences: [0; MINS.len()],
             malformed: [0; 9],
             events: [0; EVENTS.len()],
             waiting: false,
@@ -268,6 +281,7 @@ impl Counts {
             let size = ring.max - ring.min;
             let inside = ring.min <= next && next < ring.max;
             self.event(Event::FullRing, inside && (next + 4 - ring.min) % size == ring.stop - ring.min);
+            self.fences(ring.min, min, answered.answer, &pair.model.executed);
         }
         if let Some(after) = pair.device() {
             self.event(Event::BusyKept, device.busy && after.busy);
@@ -278,6 +292,19 @@ impl Counts {
         for executed in &pair.model.executed {
             self.executed(executed);
         }
+    }
+
+    /// The fences of a run, with the MIN that is remembered and ring word 0.
+    fn fences(&mut self, min: u64, word_0: u64, answer: u64, executed: &[Executed]) {
+        let place = (min as usize / 4 - 4).min(MINS.len() - 1);
+        let fences: Vec<_> = executed.iter().filter(|executed| matches!(executed.command, Command::Fence(_))).collect();
+        self.fences[place] += fences.len() as u64;
+        self.straddled_fences[place] += fences.iter().filter(|fence| fence.straddled).count() as u64;
+        let (posts, some) = (min >= 28, !fences.is_empty());
+        self.event(Event::PostedAgainstWord0, some && posts && word_0 < 28);
+        self.event(Event::KeptAgainstWord0, some && !posts && word_0 >= 28);
+        self.event(Event::NotPosted, !some && posts && !executed.is_empty());
+        self.event(Event::PostedThenFault, some && posts && answer >= 10);
     }
 
     fn executed(&mut self, executed: &Executed) {
@@ -384,6 +411,9 @@ impl Counts {
             rarest(&self.cursor_widths),
             rarest(&self.cursor_heights)
         );
+        let by_min = |counts: &[u64]| MINS.iter().zip(counts).map(|(min, count)| format!("{min}: {count}")).collect::<Vec<_>>().join("  ");
+        println!("  FENCE executed by MIN ({FENCE_MINIMUM}):  {}", by_min(&self.fences));
+        println!("    .. over the ring's end ({STRADDLED_FENCE_MINIMUM}):  {}", by_min(&self.straddled_fences));
         let malformed: Vec<String> = self.malformed_calls().map(|(name, count)| format!("{name} {count}")).collect();
         println!("  calls on words that are no device ({MALFORMED_MINIMUM}):  {}", malformed.join("  "));
         for ((text, minimum), count) in EVENTS.iter().zip(&self.events) {
@@ -425,6 +455,10 @@ impl Counts {
         for size in 1..=64 {
             require(format!("cursors {size} wide"), self.cursor_widths[size], CURSOR_MINIMUM);
             require(format!("cursors {size} high"), self.cursor_heights[size], CURSOR_MINIMUM);
+        }
+        for (place, min) in MINS.iter().enumerate() {
+            require(format!("FENCE executed with MIN {min}"), self.fences[place], FENCE_MINIMUM);
+            require(format!("FENCE over the ring's end with MIN {min}"), self.straddled_fences[place], STRADDLED_FENCE_MINIMUM);
         }
         for (name, count) in self.malformed_calls() {
             require(format!("{name} on words that are no device"), count, MALFORMED_MINIMUM);

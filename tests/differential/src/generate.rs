@@ -292,7 +292,8 @@ impl Generator {
             return self.commands(pair, device);
         }
         match self.random.below(100) {
-            0..=49 => self.commands(pair, device),
+            0..=47 => self.commands(pair, device),
+            48..=49 => self.fences(pair, device),
             50..=56 => self.run(pair),
             57..=61 => self.picture(pair),
             62..=66 => self.show_cursor(pair, device),
@@ -381,11 +382,12 @@ impl Generator {
         }
     }
 
-    /// Ring words that are accepted: STOP often near the end, NEXT_CMD mostly at STOP.
+    /// Ring words that are accepted: MIN often 16 to 32, STOP often near the end, NEXT_CMD mostly at STOP.
     fn good_ring(&mut self, memory: u32) -> [u32; 4] {
         let r = &mut self.random;
         let slack = u64::from(memory - 10_256) / 4;
-        let min = 16 + 4 * if r.chance(1, 2) { r.below(slack.min(8) + 1) } else { r.below(slack + 1) } as u32;
+        let most = r.of(&[4, 4, 8, slack, slack]).min(slack);
+        let min = 16 + 4 * r.below(most + 1) as u32;
         let least = min + 10_240;
         let max = match r.below(3) {
             0 => least,
@@ -668,6 +670,39 @@ impl Generator {
         self.run(pair);
     }
 
+    /// Fences, and few other commands, often at the ring's end; before they run the guest may rewrite ring word 0, which does not change
+    /// where fences are posted, and ring word 6.
+    fn fences(&mut self, pair: &Pair, device: &Device) {
+        let mut min = pair.ring_words()[0];
+        if self.random.chance(1, 2) {
+            let ring = self.good_ring(device.memory as u32);
+            let stop = ring[1] - 4 * self.random.between(1, 5) as u32;
+            min = ring[0];
+            self.push(Step::Ring { place: 0, words: vec![min, ring[1], stop, stop] });
+            self.write(pair, 20, 1);
+        }
+        for _ in 0..self.random.between(1, 3) {
+            let words = if self.random.chance(1, 5) { vec![2, self.random.word(), 0, 0, 1, 1] } else { self.fence(device) };
+            self.push(Step::Put { words });
+        }
+        if self.random.chance(1, 3) {
+            let word = self.value();
+            self.push(Step::Ring { place: 6, words: vec![word] });
+        }
+        let rewritten = self.random.chance(1, 2);
+        if rewritten {
+            let word = self.random.of(&[0, 16, 20, 24, 25, 27, 28, 29, 32, HALF, TOP]);
+            self.push(Step::Ring { place: 0, words: vec![word] });
+        }
+        self.run(pair);
+        if self.random.chance(1, 2) {
+            self.run(pair);
+        }
+        if rewritten {
+            self.push(Step::Ring { place: 0, words: vec![min] });
+        }
+    }
+
     /// An ESCAPE that leaves few words free or none, and appends until one is refused.
     fn fill_ring(&mut self, pair: &Pair) {
         let Some(seen) = self.seen(pair) else {
@@ -715,18 +750,21 @@ impl Generator {
                 let operation = self.operation();
                 [&[14][..], &self.move_of(width, height), &[operation]].concat()
             }
-            80..=86 => {
-                let number = match self.random.below(3) {
-                    0 => (device.fence as u32).wrapping_add(1),
-                    1 => self.random.word(),
-                    _ => self.value(),
-                };
-                vec![30, number]
-            }
+            80..=86 => self.fence(device),
             87..=93 => self.cursor(seen),
             94..=97 => self.escape(seen),
             _ => self.foreign(),
         }
+    }
+
+    fn fence(&mut self, device: &Device) -> Vec<u32> {
+        let number = match self.random.below(4) {
+            0 => (device.fence as u32).wrapping_add(1),
+            1 => device.fence as u32,
+            2 => self.random.word(),
+            _ => self.value(),
+        };
+        vec![30, number]
     }
 
     fn colour(&mut self) -> u32 {

@@ -1,4 +1,4 @@
-//! Holds the library for C against an independent model of document 01, on random sequences of calls. See README.md.
+//! Holds the library for C against an independent model of the documents' rules, on random sequences of calls. See README.md.
 
 mod alarm;
 mod cases;

@@ -9,9 +9,10 @@ use Rattle.execution.specs.Straight.{exec}
 use Rattle.ring.proofs.WaitingLaws.{length-words}
 use Rattle.ring.specs.Waiting.{carried}
 use Rattle.command.specs.Findings.{findsIn, asTurn, begun}
-use Rattle.run.specs.Run.{machine}
-use Rattle.run.specs.Turns.{wordsIn}
+use Rattle.run.specs.Run.{machine, stamped, postedIn}
+use Rattle.run.specs.Turns.{wordsIn, passedIn}
 use Rattle.run.proofs.Found.{Found}
+use Rattle.run.proofs.Posting.{posting-same, posted-stamped}
 use Rattle.run.proofs.TurnLaws.{stops, goes-on, data-ends, data-executes, data-found, data-done}
 use Rattle.run.proofs.data_turn.Statement.{statement}
 use Rattle.run.proofs.data_turn.Tie as tie
@@ -47,7 +48,7 @@ returns : tie.Need-returns
 returns c s screen =
     let d = c .before .before .before .before in
     let a = start d .args in
-    let m = machine (a .marks) screen (a .cursor .now) in
+    let m = machine (a .marks) screen (a .cursor .now) (postedIn (s .posts) (a .ring .now)) in
     rw (c .stopped .ensures)
     (stops s (a .v) (a .ring .now) m _
     (data-ends (a .v) (a .ring .now) _ (a .tail) (a .head .now) (start d .pre .1 .0) (start d .pre .1 .1) (start d .pre .1 .2) _ (d .data-turn .ensures) s m _ (c .before .before .finding .given .1)))
@@ -63,12 +64,18 @@ returns-2 c s screen =
     let p = start d .pre .1 in
     let act = f .finding2 .given .0 .0 in
     let n = f .finding2 .given .0 .1 .0 in
-    let m = machine (a .marks) screen (a .cursor .now) in
+    let m = machine (a .marks) screen (a .cursor .now) (postedIn (s .posts) (a .ring .now)) in
     let cap = carried (a .v .lo) (a .v .hi) in
-    let done = data-done (a .v) (a .ring .now) cap (a .tail) (a .head .now) (p .0) (p .1) (p .2) act n (said f) s m _ _ (marked .mark .ensures) (b .bring-cursor .ensures) in
+    let done =
+    data-done (a .v) (a .ring .now) cap (a .tail) (a .head .now) (p .0) (p .1) (p .2) act n (said f) s m _ _ (marked .mark .ensures)
+    (b .bring-cursor .ensures) in
+    let executes =
+    data-executes (a .v) (a .ring .now) cap (a .tail) (a .head .now) (p .0) (p .1) (p .2) _ (d .data-turn .ensures) s m act n (f .finding2 .given .1)
+    ∙ ap (exec n) done in
+    let to = passedIn (a .v) n .at in
     rw (e .executed .ensures .0, e .executed .ensures .1)
-    (goes-on s (a .v) (a .ring .now) m n _
-    (data-executes (a .v) (a .ring .now) cap (a .tail) (a .head .now) (p .0) (p .1) (p .2) _ (d .data-turn .ensures) s m act n (f .finding2 .given .1) ∙ ap (exec n) done))
+    (goes-on s (a .v) (a .ring .now) m n _ executes _ (ap (stamped to) (sym (posting-same (s .posts) (a .ring .now)))) _
+    (ap (machine (marked .mark .result) screen _) (posted-stamped (s .posts) to (a .ring .now))))
 
 pub data-turn-spec : {M : Type 1} → statement M
 data-turn-spec =

@@ -1,6 +1,6 @@
 -- `run::row_turns` meets its contract. The invariant: whatever follows the row, the run still to do from here is the whole run.
 -- Assumes nothing.
-use mathlib.Core.Path.{_≡_, refl, sym, _∙_}
+use mathlib.Core.Path.{_≡_, refl, sym, ap, _∙_}
 use mathlib.Core.Logic.{⊎-elim}
 use mathlib.Core.List.{List, [], _∷_}
 use Prim.Native.Nat.{ℕ, _+_, _≤_, _<_}
@@ -14,18 +14,19 @@ use Rattle.command.specs.declared.Step.the-variants.{Does, Short, Faults, Long}
 use Rattle.command.proofs.Step as S
 use Rattle.command.specs.Findings.{stepIn}
 use Rattle.effect.specs.Effects.{scene}
-use Rattle.run.specs.Turns.{rowIn}
+use Rattle.run.specs.Run.{stamped}
+use Rattle.run.specs.Turns.{rowIn, Clear}
 use Rattle.run.specs.Going.{RowGoing}
-use Rattle.run.proofs.Rows.{row-start, same-row, row-same-length, row-fits, row-more, NotDone, pauses-spent, pauses-at}
+use Rattle.run.proofs.Rows.{row-start, same-row, row-same-length, row-clear, row-fits, row-more, NotDone, pauses-spent, pauses-at}
 use Rattle.run.proofs.row_turns.Statement.{statement}
 use Rattle.run.proofs.row_turns.Tie as tie
 
 abbrev Inv-loop : tie.InvT-loop
-Inv-loop from end before budget memory₀ framebuffer screen₀ width rows at₀ fence₀ left₀ memory screen at fence left =
-    RowGoing (scene width rows framebuffer) budget memory₀ from end before screen₀ at fence left memory screen × (length screen ≡ length screen₀)
+Inv-loop from end before budget posts memory₀ framebuffer screen₀ width rows at₀ fence₀ left₀ memory screen at fence left =
+    RowGoing (scene width rows framebuffer posts) budget memory₀ from end before screen₀ at fence left memory screen × (length screen ≡ length screen₀)
 
 abbrev μ-loop : tie.MeasureT-loop
-μ-loop from end before budget memory₀ framebuffer screen₀ width rows at₀ fence₀ left₀ memory screen at fence left = left
+μ-loop from end before budget posts memory₀ framebuffer screen₀ width rows at₀ fence₀ left₀ memory screen at fence left = left
 
 abbrev Start : tie.At-loop Inv-loop μ-loop → tie.Start Inv-loop μ-loop
 Start c = c .before .before .before .before
@@ -42,11 +43,14 @@ module _ (c : tie.At-loop Inv-loop μ-loop) where
   there : Start c .args .end ≤ length (Start c .args .memory .now)
   there = Start c .pre .2
 
+  clear : Clear (Start c .args .posts) (Start c .args .from)
+  clear = Start c .pre .4
+
   abbrev same : rowIn (c .loop .memory) (c .loop .at) (Start c .args .end) ≡ rowIn (Start c .args .memory .now) (c .loop .at) (Start c .args .end)
-  same = same-row low there (c .loop .inv .0)
+  same = same-row low there clear (c .loop .inv .0)
 
   lengths : length (c .loop .memory) ≡ length (Start c .args .memory .now)
-  lengths = row-same-length low there (c .loop .inv .0)
+  lengths = row-same-length low there clear (c .loop .inv .0)
 
 -- what the places in a row ask for
 bounds : (c : tie.At-loop Inv-loop μ-loop)
@@ -70,7 +74,7 @@ module _ (c : tie.After-step Inv-loop μ-loop) where
   does = sym (turn .step-in .ensures) ∙ c .step .given .1
 
   fits : (1 ≤ c .step .given .0 .1 .0) × (at-loop turn .loop .at + c .step .given .0 .1 .0 ≤ Start (at-loop turn) .args .end)
-  fits = row-fits (low (at-loop turn)) (there (at-loop turn)) (at-loop turn .loop .inv .0) _ _ does
+  fits = row-fits (low (at-loop turn)) (there (at-loop turn)) (clear (at-loop turn)) (at-loop turn .loop .inv .0) _ _ does
 
 abbrev drawn : tie.After-fence-after Inv-loop μ-loop → tie.After-draw Inv-loop μ-loop
 drawn c = c .before .before .before
@@ -78,16 +82,23 @@ drawn c = c .before .before .before
 abbrev done : tie.After-fence-after Inv-loop μ-loop → tie.After-step Inv-loop μ-loop
 done c = drawn c .before .before .before
 
-abbrev stamped-at : tie.After-slice-known4 Inv-loop μ-loop → tie.After-fence-after Inv-loop μ-loop
-stamped-at c = c .before .before .before .before
+-- its fence was posted, and word 3 written
+abbrev posted : tie.After-post-fence Inv-loop μ-loop → tie.After-fence-after Inv-loop μ-loop
+posted c = c .before .before
+
+abbrev stamped-at : tie.After-slice-known5 Inv-loop μ-loop → tie.After-post-fence Inv-loop μ-loop
+stamped-at c = c .before .before .before .before .before .before
 
 loop-again : tie.Need-loop-again Inv-loop μ-loop
 loop-again c =
-    let fence = stamped-at c in
+    let post = stamped-at c in
+    let fence = posted post in
     let step = done fence in
     let at = at-loop (turn step) in
-    let draw = drawn fence .draw in (
-      row-more (low at) (there at) (at .loop .inv .0) _ _ (does step) (entered (turn step)) _ (c .before .before .stamp .ensures) _ (draw .ensures) _ (fence .fence-after .ensures),
+    let draw = drawn fence .draw in
+    let wrote = c .before .before .stamp .ensures ∙ ap (stamped (at .loop .at + step .step .given .0 .1 .0)) (post .post-fence .ensures) in (
+      row-more (low at) (there at) (clear at) (at .loop .inv .0) _ _ (does step) (entered (turn step)) _ wrote _ (draw .ensures _) _
+          (fence .fence-after .ensures),
       draw .kept .1 .1 .0 ∙ at .loop .inv .1,
     )
 
@@ -123,10 +134,16 @@ row-turns-spec =
     returns
     (λ c κs. search needs)
     (λ c κs. search needs)
-    (λ c. let step = done c in let b = bounds (at-loop (turn step)) in let f = fits step in omega arith)
-    (λ c κs. let step = done (c .before) in let b = bounds (at-loop (turn step)) in let f = fits step in (omega arith, omega arith))
-    (λ c. omega (arith, entered (turn (done (stamped-at c)))))
-    (λ c. omega (arith, entered (turn (done (stamped-at c)))))
+    (λ c κs. let at = at-loop (turn (done (c .before))) in row-clear (low at) (there at) (clear at) (at .loop .inv .0))
+    (λ c. let step = done (posted (c .before .before)) in let b = bounds (at-loop (turn step)) in let f = fits step in omega arith)
+    (λ c κs. let post = c .before .before .before in
+    let step = done (posted post) in
+    let b = bounds (at-loop (turn step)) in
+    let f = fits step in
+    let l = post .post-fence .kept .1 .1 .0 in
+    (omega arith, omega arith))
+    (λ c. omega (arith, entered (turn (done (posted (stamped-at c))))))
+    (λ c. omega (arith, entered (turn (done (posted (stamped-at c))))))
     loop-again
     (λ c. lengths (c .before))
     (λ c. c .before .loop .inv .1)

@@ -8,7 +8,7 @@ use lib.ListN.{length}
 use Rattle.ring.specs.Acceptance.{nextOf}
 use Rattle.ring.specs.Waiting.{nextGood}
 use Rattle.run.specs.Run.{fitting}
-use Rattle.run.proofs.RunLaws.{run-unfit, run-next-unusable, run-good, can-view, can-turn, head-there}
+use Rattle.run.proofs.RunLaws.{run-unfit, run-next-unusable, run-posts, can-view, can-turn, head-there}
 use Rattle.run.proofs.run.Statement.{statement}
 use Rattle.run.proofs.run.Tie as tie
 
@@ -29,8 +29,11 @@ usable c = sym (c .before .next-good .ensures) ∙ not-false _ (c .if2 .left)
 abbrev past-next : tie.After-view-of → tie.Else2
 past-next c = c .before
 
-abbrev at-view : tie.After-turns → tie.After-view-of
-at-view c = c .before .before .before .before
+abbrev at-posts : tie.After-turns → tie.After-posts-in
+at-posts c = c .before .before .before .before
+
+abbrev at-view : tie.After-posts-in → tie.After-view-of
+at-view c = c .before
 
 abbrev at-turns : tie.After-slice-known7 → tie.After-turns
 at-turns c = c .before .before .before .before .before .before
@@ -45,9 +48,10 @@ returns-2 c =
 returns-3 : tie.Need-returns-3
 returns-3 c =
     let t = at-turns c in
-    let v = at-view t in
+    let p = at-posts t in
+    let v = at-view p in
     let e = past-next v in
-    t .turns .ensures ∙ run-good _ _ _ _ _ _ (fits (past-fits (e .before))) (usable e) (v .view-of .ensures)
+    t .turns .ensures ∙ run-posts _ _ _ _ _ _ _ _ _ _ _ (fits (past-fits (e .before))) (usable e) (v .view-of .ensures) (p .posts-in .ensures)
 
 pub run-spec : {M : Type 1} → statement M
 run-spec =
@@ -60,7 +64,10 @@ run-spec =
     (λ c κs. search needs)
     returns-2
     (λ c κs. can-view _ _ _ _ (fits (past-fits (c .before))) (usable c))
-    (λ c κs. let v = c .before .before .before in can-turn _ _ _ _ _ (fits (past-fits (past-next v .before))) (usable (past-next v)) (v .view-of .ensures))
+    (λ c κs. search needs)
+    (λ c κs. let p = c .before .before .before in
+    let v = at-view p in
+    can-turn _ _ _ _ _ (fits (past-fits (past-next v .before))) (usable (past-next v)) (v .view-of .ensures) _ (p .posts-in .ensures))
     (λ c. search needs)
     (λ c. search needs)
     (λ c. search needs)

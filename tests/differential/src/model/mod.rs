@@ -1,5 +1,5 @@
-//! The device as document 01 has it, written from its sentences and from nothing else: whole numbers in 64 bits, plain loops over
-//! pixels, no speed. The calls are those of the interface for C, on slices.
+//! The device as document 01 has it, with what 02's P1 adds, written from their sentences and from nothing else: whole numbers in 64
+//! bits, plain loops over pixels, no speed. The calls are those of the interface for C, on slices.
 //!
 //! A model may break one `Rule`: the driver has to find each of these.
 

@@ -202,6 +202,25 @@ impl Model {
         }
     }
 
+    /// 02's P1: "When MIN is 28 or more, an executed FENCE also writes its number to word 6; below that, as today." MIN is the one that
+    /// is remembered: "Later changes by the guest to words 0, 1 and 3 are not read".
+    fn posts(&self, remembered: &Ring, ring: &[u32]) -> bool {
+        let min = if self.breaks(Rule::FencePostedByWord0) { u64::from(ring[0]) } else { remembered.min };
+        if self.breaks(Rule::FenceNotPosted) {
+            return false;
+        }
+        if self.breaks(Rule::FencePostedAlways) {
+            return true;
+        }
+        if self.breaks(Rule::FencePostedAt24) {
+            return min >= 24;
+        }
+        if self.breaks(Rule::FenceNotPostedAt28) {
+            return min > 28;
+        }
+        min >= 28
+    }
+
     /// "A run checks 20, 22, 21, 24, 23 in that order."
     fn refusal(&self, device: &Device, ring: &[u32], framebuffer: &[u32], screen: &[u32], image: &[u32]) -> Option<u64> {
         let length_wrong = ring.len() as u64 * 4 != device.memory
@@ -302,8 +321,17 @@ impl Model {
                 Turn::Executes(command, length) => (command, length),
             };
             // "Then it is executed, STOP passes it, ring word 3 is written."
+            let old_fence = device.fence;
             self.execute(device, &command, framebuffer, screen, image);
             let words_to_end = (remembered.max - remembered.stop) / 4;
+            let straddled = length > words_to_end;
+            if let Command::Fence(number) = command {
+                let left_out = self.breaks(Rule::FencePostedInRowOnly) && straddled
+                    || self.breaks(Rule::SameFenceNotPosted) && number == old_fence;
+                if self.posts(&remembered, ring) && !left_out {
+                    ring[6] = if self.breaks(Rule::OldFencePosted) { old_fence } else { number } as u32;
+                }
+            }
             remembered.stop = moved_on(&remembered, length);
             if self.breaks(Rule::StopLeftAtMax) && length == words_to_end {
                 remembered.stop = remembered.max;
@@ -311,22 +339,21 @@ impl Model {
             if !self.breaks(Rule::StopNotWritten) {
                 ring[3] = remembered.stop as u32;
             }
-            if self.breaks(Rule::FenceInWord6) && remembered.min >= 28 {
-                if let Command::Fence(number) = command {
-                    ring[6] = number as u32;
-                }
-            }
             // "an empty one is consumed"
             let empty = matches!(&command, Command::Fill { rect, .. } if rect.w == 0 || rect.h == 0);
             if !(self.breaks(Rule::EmptyRectangleNotCounted) && empty) {
                 count += 1;
             }
             let mode = (device.width, device.height);
-            self.executed.push(Executed { command, mode, wrapped: length >= words_to_end, straddled: length > words_to_end });
+            self.executed.push(Executed { command, mode, wrapped: length >= words_to_end, straddled });
         };
-        // "The run changes no other ring word, and none if it consumed nothing."
+        // "The run changes no other ring word, and none if it consumed nothing." 02's P1: "A run then changes words 3 and 6 only".
         if self.breaks(Rule::StopWrittenUnasked) {
             ring[3] = remembered.stop as u32;
+        }
+        let fences = self.executed.iter().filter(|executed| matches!(executed.command, Command::Fence(_))).count();
+        if self.breaks(Rule::FencePostedUnasked) && fences == 0 && self.posts(&remembered, ring) {
+            ring[6] = device.fence as u32;
         }
         device.condition = Condition::Running(remembered);
         if (10..=13).contains(&answer) {

@@ -1,0 +1,245 @@
+-- Over a whole run: which fence stands in ring word 6, and that the ring memory has what straight execution posted.
+-- Assumes nothing.
+use mathlib.Core.Path.{_≡_, refl, sym, ap, _∙_}
+use mathlib.Core.Bool.{Bool, true, false, true≢false}
+use mathlib.Core.Logic.{_≢_, _⊎_, inl, inr, ⊎-elim}
+use mathlib.Core.Option.{Option, none, some}
+use mathlib.Core.List.{List, [], _∷_}
+use Prim.Native.Nat.{ℕ, zero, suc, _≤_}
+use native.Mathlib.Omega.{arith}
+use lib.Dec.{eqb}
+use lib.ListN.{length, getD, take}
+use lib.Seq.{getD-set-other}
+use borrow.Author.Tests.{eqb-true, le-leb}
+use borrow.Table.Steps.{cases}
+use Rattle.execution.specs.Straight.{Line, Turn, ends, exec, beyond, next, straight}
+use Rattle.execution.specs.Table.{turnOf}
+use Rattle.execution.specs.Turns.{LineRun, runs}
+use Rattle.execution.proofs.Laws.{straight-exec}
+use Rattle.execution.proofs.QueueLaws.{runs-ends, runs-exec}
+use Rattle.ring.specs.declared.Ring.{Ring}
+use Rattle.command.specs.declared.Action.{Action}
+use Rattle.command.specs.declared.Action.the-variants as A
+use Rattle.command.specs.declared.Kind.{Kind}
+use Rattle.command.specs.declared.Kind.the-variants.{Update, RectFill, RectCopy, RectRopFill, RectRopCopy}
+use Rattle.command.specs.declared.Kind.the-variants.{DefineAlphaCursor, UpdateVerbose, Fence, Escape, Foreign}
+use Rattle.command.specs.Commands.{entry, kindIn}
+use Rattle.command.specs.Findings.{findsIn, onMachine}
+use Rattle.command.proofs.Rules.{turn-found}
+use Rattle.effect.specs.Effects.{Scene, Machine, fenceAfter, postedAfter, done}
+use Rattle.run.specs.Run.{knownOf, table, NoFence, stamped, postsIn, postedIn, RingOutcome, left}
+use Rattle.run.specs.Turns.{Clear}
+use Rattle.run.proofs.Found.{found}
+use Rattle.run.proofs.Posting.{posting-same, posted-six, posted-none, posted-written}
+
+-- ---- any run
+
+module _ {S : Type 0} (turn : S → List ℕ → Turn S) where
+  -- what each executed turn keeps of the machine, a run keeps
+  pub runs-keep : (Q : S → Type 0) → ((s t : S) (w : List ℕ) (n : ℕ) → turn s w ≡ exec n t → Q s → Q t) → (b : ℕ) (a : Line S) → Q (a .machine)
+      → Q (runs turn b a .line .machine)
+  unfolding runs
+  runs-keep Q keeps zero a q = q
+  runs-keep Q keeps (suc b) a q = go (next turn a) refl (λ n s h. runs-keep Q keeps b (beyond a n s) h)
+    where
+      go : (t : Turn S) → next turn a ≡ t → ((n : ℕ) (s : S) → Q s → Q (runs turn b (beyond a n s) .line .machine)) → Q (runs turn (suc b) a .line .machine)
+      go (ends e) r ih = rw (runs-ends turn b a e r) q
+      go (exec n s) r ih = rw (runs-exec turn b a n s r) (ih n s (keeps (a .machine) s (a .words) n r q))
+
+  -- a run that consumed nothing left the line
+  pub runs-none : (b : ℕ) (a : Line S) → runs turn b a .count ≡ 0 → runs turn b a .line ≡ a
+  unfolding runs
+  runs-none zero a z = refl
+  runs-none (suc b) a z = go (next turn a) refl
+    where
+      go : (t : Turn S) → next turn a ≡ t → runs turn (suc b) a .line ≡ a
+      go (ends e) r = rw (runs-ends turn b a e r)
+      go (exec n s) r = absurd (let c = ap (λ (l : LineRun S). l .count) (runs-exec turn b a n s r) in omega arith)
+
+-- ring word 6 stays where what is posted does
+left-same : (g : Ring) (ring words : List ℕ) (r : LineRun Machine) → r .line .machine .posted ≡ postedIn (postsIn g) ring
+    → getD (left g ring words r .ring) 6 0 ≡ getD ring 6 0
+unfolding left stamped
+left-same g ring words r e =
+    cases (eqb (r .count) 0)
+    (λ t. rw t)
+    (λ f. rw (f, e, posting-same (postsIn g) ring) (getD-set-other ring 3 6 _ 0 (λ z. omega arith)))
+
+-- ---- one command
+
+-- a command is a FENCE or another
+fence-or-other : (k : Kind) → (k ≡ Fence) ⊎ (k ≢ Fence)
+fence-or-other Update = inr (λ e. true≢false cc)
+fence-or-other RectFill = inr (λ e. true≢false cc)
+fence-or-other RectCopy = inr (λ e. true≢false cc)
+fence-or-other RectRopFill = inr (λ e. true≢false cc)
+fence-or-other RectRopCopy = inr (λ e. true≢false cc)
+fence-or-other DefineAlphaCursor = inr (λ e. true≢false cc)
+fence-or-other UpdateVerbose = inr (λ e. true≢false cc)
+fence-or-other Fence = inl refl
+fence-or-other Escape = inr (λ e. true≢false cc)
+fence-or-other Foreign = inr (λ e. true≢false cc)
+
+-- a FENCE posts itself, where fences are posted
+fence-posts : (k : Kind) → k ≡ Fence → (w : List ℕ) (posted fence : ℕ) → postedAfter true (entry k .action w) posted ≡ fenceAfter (entry k .action w) fence
+unfolding postedAfter fenceAfter entry
+fence-posts k e w posted fence = rw e
+
+-- another leaves both what is posted and the fence
+other-posts : (k : Kind) → k ≢ Fence → (posts : Bool) (w : List ℕ) (posted fence : ℕ)
+    → (postedAfter posts (entry k .action w) posted ≡ posted) × (fenceAfter (entry k .action w) fence ≡ fence)
+unfolding postedAfter fenceAfter entry
+other-posts Update h posts w posted fence = (refl, refl)
+other-posts RectFill h posts w posted fence = (refl, refl)
+other-posts RectCopy h posts w posted fence = (refl, refl)
+other-posts RectRopFill h posts w posted fence = (refl, refl)
+other-posts RectRopCopy h posts w posted fence = (refl, refl)
+other-posts DefineAlphaCursor h posts w posted fence = (refl, refl)
+other-posts UpdateVerbose h posts w posted fence = (refl, refl)
+other-posts Fence h posts w posted fence = absurd (h refl)
+other-posts Escape h posts w posted fence = (refl, refl)
+other-posts Foreign h posts w posted fence = (refl, refl)
+
+-- none posts where fences are not posted
+unposted-after : (a : Action) (posted : ℕ) → postedAfter false a posted ≡ posted
+unfolding postedAfter
+unposted-after (A.Update r) posted = refl
+unposted-after (A.Fill r colour rop) posted = refl
+unposted-after (A.Copy from r rop) posted = refl
+unposted-after (A.Define s) posted = refl
+unposted-after (A.Fence number) posted = refl
+unposted-after A.Nothing posted = refl
+
+module _ (s : Scene) (cap : ℕ) where
+  abbrev turn : Machine → List ℕ → Turn Machine
+  turn = turnOf cap (table s)
+
+  -- the action that words begin with
+  abbrev act : List ℕ → Action
+  act w = entry (kindIn w) .action w
+
+  abbrev Marks-by : List ℕ → Machine → Machine → Type 0
+  Marks-by w m u = (u .posted ≡ postedAfter (s .posts) (act w) (m .posted)) × (u .marks .fence ≡ fenceAfter (act w) (m .marks .fence))
+
+  by-found : (m u : Machine) (w : List ℕ) (n : ℕ) (f : Turn (Option Action)) → 1 ≤ length w → findsIn tt cap w ≡ f → onMachine (done s) m w f ≡ exec n u
+      → Marks-by w m u
+  unfolding done
+  by-found m u w n (ends e) l q r = absurd (true≢false cc)
+  by-found m u w n (exec k none) l q r = absurd (true≢false cc)
+  by-found m u w n (exec k (some a)) l q r =
+      let same : done s a (take k w) m ≡ u = cc in
+      let is : act w ≡ a = found cap w a k l q .action in
+      rw (is, ← same) (refl, refl)
+
+  -- what an executed command posts, and the fence that it leaves
+  exec-marks : (m u : Machine) (w : List ℕ) (n : ℕ) → turn m w ≡ exec n u → Marks-by w m u
+  unfolding turnOf
+  exec-marks m u [] n q = absurd (true≢false cc)
+  exec-marks m u (x ∷ w) n q = by-found m u (x ∷ w) n _ (omega arith) refl (sym (turn-found knownOf (done s) cap m (x ∷ w)) ∙ q)
+
+  -- a run left what is posted and the fence
+  abbrev Same : LineRun Machine → Machine → Type 0
+  Same r m = (r .line .machine .posted ≡ m .posted) × (r .line .machine .marks .fence ≡ m .marks .fence)
+
+  -- one that executed no FENCE did
+  pub runs-no-fence : (b : ℕ) (a : Line Machine) → NoFence turn (runs turn b a .count) a → Same (runs turn b a) (a .machine)
+  unfolding runs straight
+  runs-no-fence zero a h = (refl, refl)
+  runs-no-fence (suc b) a h = go (next turn a) refl (λ n u. runs-no-fence b (beyond a n u))
+    where
+      go : (t : Turn Machine) → next turn a ≡ t
+          → ((n : ℕ) (u : Machine) → NoFence turn (runs turn b (beyond a n u) .count) (beyond a n u) → Same (runs turn b (beyond a n u)) u)
+          → Same (runs turn (suc b) a) (a .machine)
+      go (ends e) r ih = rw (runs-ends turn b a e r) (refl, refl)
+      go (exec n u) r ih =
+          let did = runs-exec turn b a n u r in
+          let count = ap (λ (l : LineRun Machine). l .count) did in
+          let first : kindIn (a .words) ≢ Fence = h 0 (omega arith) in
+          let rest : NoFence turn (runs turn b (beyond a n u) .count) (beyond a n u) =
+          λ j l. rw (straight-exec turn j a n u r) at (h (suc j) (omega arith)) in
+          let same = ih n u rest in
+          let e = exec-marks (a .machine) u (a .words) n r in
+          let k = other-posts (kindIn (a .words)) first (s .posts) (a .words) (a .machine .posted) (a .machine .marks .fence) in
+          rw did (same .0 ∙ e .0 ∙ k .0, same .1 ∙ e .1 ∙ k .1)
+
+  -- no FENCE first, and none behind it
+  no-fence-on : (a : Line Machine) (n k : ℕ) (u : Machine) → next turn a ≡ exec n u → kindIn (a .words) ≢ Fence → NoFence turn k (beyond a n u)
+      → NoFence turn (suc k) a
+  unfolding straight
+  no-fence-on a n k u r first rest zero l = first
+  no-fence-on a n k u r first rest (suc j) l = rw (straight-exec turn j a n u r) (rest j (omega arith))
+
+  -- a run executed no FENCE, or the fence is posted
+  abbrev Posted : LineRun Machine → Line Machine → Type 0
+  Posted r a = NoFence turn (r .count) a ⊎ (r .line .machine .posted ≡ r .line .machine .marks .fence)
+
+  -- so it is where fences are posted
+  pub runs-posted : s .posts ≡ true → (b : ℕ) (a : Line Machine) → Posted (runs turn b a) a
+  unfolding runs
+  runs-posted shown zero a = inl (λ j l. absurd (omega arith))
+  runs-posted shown (suc b) a = go (next turn a) refl (λ n u. runs-posted shown b (beyond a n u))
+    where
+      go : (t : Turn Machine) → next turn a ≡ t → ((n : ℕ) (u : Machine) → Posted (runs turn b (beyond a n u)) (beyond a n u)) → Posted (runs turn (suc b) a) a
+      go (ends e) r ih = rw (runs-ends turn b a e r) (inl (λ j l. absurd (omega arith)))
+      go (exec n u) r ih =
+          let e = exec-marks (a .machine) u (a .words) n r in
+          let k = kindIn (a .words) in
+          let behind = runs turn b (beyond a n u) in
+          rw (runs-exec turn b a n u r)
+          (⊎-elim
+          (λ without.
+          ⊎-elim
+          (λ f.
+          let same = runs-no-fence b (beyond a n u) without in
+          let p : u .posted ≡ postedAfter true (act (a .words)) (a .machine .posted) = rw shown at (e .0) in
+          inr (same .0 ∙ p ∙ fence-posts k f (a .words) (a .machine .posted) (a .machine .marks .fence) ∙ sym (e .1) ∙ sym (same .1)))
+          (λ first. inl (no-fence-on a n (behind .count) u r first without))
+          (fence-or-other k))
+          inr
+          (ih n u))
+
+  -- where they are not, what is posted stays
+  pub runs-unposted : s .posts ≡ false → (b : ℕ) (a : Line Machine) → runs turn b a .line .machine .posted ≡ a .machine .posted
+  runs-unposted none-posted b a =
+      runs-keep turn (λ m. m .posted ≡ a .machine .posted)
+      (λ m u w n q h. exec-marks m u w n q .0 ∙ ap (λ (p : Bool). postedAfter p (act w) (m .posted)) none-posted ∙ unposted-after (act w) (m .posted) ∙ h)
+      b a refl
+
+  -- the ring memory has what was posted
+  pub left-posted : (g : Ring) (ring : List ℕ) (b : ℕ) (a : Line Machine) → s .posts ≡ postsIn g → a .machine .posted ≡ postedIn (postsIn g) ring
+      → Clear (postsIn g) (length ring) → postedIn (postsIn g) (left g ring (a .words) (runs turn b a) .ring) ≡ runs turn b a .line .machine .posted
+  unfolding left
+  left-posted g ring b a by-min start clear =
+      let r = runs turn b a in
+      cases (eqb (r .count) 0)
+      (λ t. rw t (sym start ∙ sym (ap (λ (l : Line Machine). l .machine .posted) (runs-none turn b a (eqb-true (r .count) 0 t)))))
+      (λ t. rw t (posted-written (postsIn g) _ (r .line .machine .posted) ring clear
+      (λ e. runs-unposted (by-min ∙ e) b a ∙ start ∙ posted-none (postsIn g) ring e)))
+
+  -- what a run of a line leaves of ring word 6 and of the fence, by the commands that it executed: without a FENCE both stay; with one word 6 is the fence,
+  -- where fences are posted
+  abbrev pub Tells : Ring → List ℕ → Line Machine → RingOutcome → Type 0
+  Tells g ring a o =
+      (NoFence turn (o .count) a → (getD (o .ring) 6 0 ≡ getD ring 6 0) × (o .machine .marks .fence ≡ a .machine .marks .fence))
+      × (7 ≤ g .min → (¬ NoFence turn (o .count) a) → getD (o .ring) 6 0 ≡ o .machine .marks .fence)
+
+  pub left-tells : (g : Ring) (ring : List ℕ) (b : ℕ) (a : Line Machine) → s .posts ≡ postsIn g → a .machine .posted ≡ postedIn (postsIn g) ring
+      → Clear (postsIn g) (length ring) → Tells g ring a (left g ring (a .words) (runs turn b a))
+  unfolding left
+  left-tells g ring b a by-min start clear =
+      let r = runs turn b a in
+      let after = left g ring (a .words) r .ring in (
+        λ without. let same = runs-no-fence b a without in (left-same g ring (a .words) r (same .0 ∙ start), same .1),
+        λ low with-one.
+            let shown : postsIn g ≡ true = le-leb 7 (g .min) low in
+            sym (posted-six (postsIn g) after shown)
+            ∙ left-posted g ring b a by-min start clear
+            ∙ ⊎-elim (λ without. absurd (with-one without)) (λ e. e) (runs-posted (by-min ∙ shown) b a),
+      )
+
+  -- a line that did not move tells the same
+  pub still-tells : (g : Ring) (ring : List ℕ) (a : Line Machine) (o : RingOutcome) → o .count ≡ 0 → o .ring ≡ ring → o .machine ≡ a .machine → Tells g ring a o
+  still-tells g ring a o uncounted same kept = (
+    λ h. (ap (λ (l : List ℕ). getD l 6 0) same, ap (λ (m : Machine). m .marks .fence) kept),
+    λ low with-one. absurd (with-one (λ j l. absurd (omega arith))),
+  )
