@@ -103,11 +103,12 @@ fn store_rows(
     let y = top as usize;
     let n = wide as usize;
     let h = high as usize;
+    let mut at = y * step + x;
     let mut j = 0;
     while j < h {
-        let at = (y + j) * step + x;
         let past = at + n;
         store_span(&mut screen[at..past], at, colour);
+        at += step;
         j += 1;
     }
 }
