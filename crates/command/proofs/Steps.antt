@@ -43,19 +43,42 @@ pub record Fixed (k : Kind) : Type 0 where
   pub behind : (w : List ℕ) → entry k .behind w ≡ 0
   pub headGood : (w : List ℕ) → entry k .headGood w ≡ true
   pub keeps : (w : List ℕ) → KeepsCursor (entry k .action w)
+  -- only one that is not in the table is not offered
+  pub offered : (k ≡ Foreign → ⊥) → entry k .offered ≡ true
 
 pub fixed : (k : Kind) → dataOf k ≡ none → Fixed k
 unfolding entry
-fixed Update e = record { behind = λ w. refl; headGood = λ w. refl; keeps = λ w. tt }
-fixed RectFill e = record { behind = λ w. refl; headGood = λ w. refl; keeps = λ w. tt }
-fixed RectCopy e = record { behind = λ w. refl; headGood = λ w. refl; keeps = λ w. tt }
-fixed RectRopFill e = record { behind = λ w. refl; headGood = λ w. refl; keeps = λ w. tt }
-fixed RectRopCopy e = record { behind = λ w. refl; headGood = λ w. refl; keeps = λ w. tt }
+fixed Update e = record { behind = λ w. refl; headGood = λ w. refl; keeps = λ w. tt; offered = λ n. refl }
+fixed RectFill e = record { behind = λ w. refl; headGood = λ w. refl; keeps = λ w. tt; offered = λ n. refl }
+fixed RectCopy e = record { behind = λ w. refl; headGood = λ w. refl; keeps = λ w. tt; offered = λ n. refl }
+fixed RectRopFill e = record { behind = λ w. refl; headGood = λ w. refl; keeps = λ w. tt; offered = λ n. refl }
+fixed RectRopCopy e = record { behind = λ w. refl; headGood = λ w. refl; keeps = λ w. tt; offered = λ n. refl }
 fixed DefineAlphaCursor e = absurd (true≢false cc)
-fixed UpdateVerbose e = record { behind = λ w. refl; headGood = λ w. refl; keeps = λ w. tt }
-fixed Fence e = record { behind = λ w. refl; headGood = λ w. refl; keeps = λ w. tt }
+fixed UpdateVerbose e = record { behind = λ w. refl; headGood = λ w. refl; keeps = λ w. tt; offered = λ n. refl }
+fixed Fence e = record { behind = λ w. refl; headGood = λ w. refl; keeps = λ w. tt; offered = λ n. refl }
 fixed Escape e = absurd (true≢false cc)
-fixed Foreign e = record { behind = λ w. refl; headGood = λ w. refl; keeps = λ w. tt }
+fixed Foreign e = record { behind = λ w. refl; headGood = λ w. refl; keeps = λ w. tt; offered = λ n. absurd (n refl) }
+
+-- a command with data behind its head, by its data
+pub data-kind : (k : Kind) (d : Data) → dataOf k ≡ some d → k ≡ kindWith d
+data-kind Update d e = absurd (true≢false cc)
+data-kind RectFill d e = absurd (true≢false cc)
+data-kind RectCopy d e = absurd (true≢false cc)
+data-kind RectRopFill d e = absurd (true≢false cc)
+data-kind RectRopCopy d e = absurd (true≢false cc)
+data-kind DefineAlphaCursor d e = ap kindWith (let q : D.Cursor ≡ d = cc in q)
+data-kind UpdateVerbose d e = absurd (true≢false cc)
+data-kind Fence d e = absurd (true≢false cc)
+data-kind Escape d e = ap kindWith (let q : D.Escape ≡ d = cc in q)
+data-kind Foreign d e = absurd (true≢false cc)
+
+-- any other command has none
+pub no-data : (k : Kind) → ((d : Data) → k ≡ kindWith d → ⊥) → dataOf k ≡ none
+no-data k other = go (dataOf k) refl
+  where
+    go : (o : Option Data) → dataOf k ≡ o → dataOf k ≡ none
+    go none q = q
+    go (some d) q = absurd (other d (data-kind k d q))
 
 pub step-none : (known : Known) (row : List ℕ) → length row ≡ 0 → stepIn known row ≡ Short
 unfolding stepIn kindOf entry
@@ -217,7 +240,7 @@ module _ (known : Known) (row : List ℕ) where
 
     pub long-kind : kindIn row ≡ kindWith d
     unfolding stepIn
-    long-kind = kind-of (kindIn row) (go (dataOf (kindIn row)) refl)
+    long-kind = data-kind (kindIn row) d (go (dataOf (kindIn row)) refl)
       where
         go : (o : Option Data) → dataOf (kindIn row) ≡ o → dataOf (kindIn row) ≡ some d
         go none q = absurd (no-long (findsIn known (length row) row) (rw q at long))
@@ -229,15 +252,3 @@ module _ (known : Known) (row : List ℕ) where
             no-long (exec n none) e = true≢false cc
             no-long (exec n (some a)) e = true≢false cc
         go (some f) q = q ∙ (let e : Long f ≡ Long d = rw q at long in cc)
-
-        kind-of : (k : Kind) → dataOf k ≡ some d → k ≡ kindWith d
-        kind-of Update e = absurd (true≢false cc)
-        kind-of RectFill e = absurd (true≢false cc)
-        kind-of RectCopy e = absurd (true≢false cc)
-        kind-of RectRopFill e = absurd (true≢false cc)
-        kind-of RectRopCopy e = absurd (true≢false cc)
-        kind-of DefineAlphaCursor e = ap kindWith (let q : D.Cursor ≡ d = cc in q)
-        kind-of UpdateVerbose e = absurd (true≢false cc)
-        kind-of Fence e = absurd (true≢false cc)
-        kind-of Escape e = ap kindWith (let q : D.Escape ≡ d = cc in q)
-        kind-of Foreign e = absurd (true≢false cc)

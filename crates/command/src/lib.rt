@@ -6,7 +6,7 @@ use geometry::Rect;
 ghost use mathlib.Core.Path.{_≡_};
 ghost use Prim.Native.Nat.{_+_, _≤_};
 ghost use lib.ListN.{length, getD};
-ghost use Rattle.command.specs.Commands.{kindOf, kindIn, rectAt, sourceAt, shapeAt};
+ghost use Rattle.command.specs.Commands.{entry, kindOf, kindIn, rectAt, sourceAt, shapeAt};
 ghost use Rattle.command.specs.declared.Kind.the-variants.{Update, RectFill, RectCopy, RectRopFill, RectRopCopy, UpdateVerbose, Fence};
 ghost use Rattle.command.specs.declared.Data.the-variants.{Cursor, Escape};
 ghost use Rattle.command.specs.Findings.{findsIn, asTurn, begun, stepIn};
@@ -77,6 +77,25 @@ pub fn kind_of(number: u32) -> Kind
         30 => Kind::Fence,
         33 => Kind::Escape,
         0 | 4..=12 | 15..=21 | 23..=24 | 26..=29 | 31..=32 | 34..=4294967295 => Kind::Foreign,
+    }
+}
+
+// The words of a command's head, its number included; a command of fixed length is all head.
+// Rules out: a cursor's head of five words; a fence of one.
+pub fn head_words(kind: Kind) -> usize
+    ensures { λ r. ⌜ r ≡ entry kind .head ⌝ }
+{
+    match kind {
+        Kind::Update => 5,
+        Kind::RectFill => 6,
+        Kind::RectCopy => 7,
+        Kind::RectRopFill => 7,
+        Kind::RectRopCopy => 8,
+        Kind::DefineAlphaCursor => 6,
+        Kind::UpdateVerbose => 6,
+        Kind::Fence => 2,
+        Kind::Escape => 3,
+        Kind::Foreign => 1,
     }
 }
 

@@ -1,18 +1,19 @@
 -- Commands in a row of words.
 -- Assumes nothing.
 use mathlib.Core.Path.{_≡_, refl, sym, ap, ap₂, _∙_}
-use mathlib.Core.Bool.{cond, true≢false}
+use mathlib.Core.Bool.{cond, true, true≢false}
 use mathlib.Core.Option.{none, some}
 use mathlib.Core.List.{List, [], _∷_, _++_}
 use Prim.Native.Nat.{ℕ, zero, suc, _+_, _-_, _≤_, _<_}
 use native.Mathlib.Omega.{arith}
 use native.Mathlib.Nat.{zero-add, suc-add}
-use lib.Dec.{eqb}
+use lib.Dec.{eqb, ltb}
 use lib.ListN.{length, take, drop, length-drop}
 use lib.Seq.{take-nil, drop-drop, drop-append-le, length-take-le}
-use borrow.Author.Tests.{ne-eqb, eq-eqb}
+use borrow.Author.Tests.{ne-eqb, eq-eqb, ltb-true, ltb-false}
 use borrow.Table.Steps.{cases}
 use Rattle.execution.specs.declared.Cause.{Cause}
+use Rattle.execution.specs.declared.Cause.the-variants.{BadOperand}
 use Rattle.execution.specs.Straight.{Line, exec}
 use Rattle.execution.specs.Table.{turnOf}
 use Rattle.execution.specs.Turns.{LineRun, runs}
@@ -24,9 +25,10 @@ use Rattle.command.specs.declared.Data.{Data}
 use Rattle.command.specs.declared.Step.{Step}
 use Rattle.command.specs.declared.Step.the-variants.{Does}
 use Rattle.command.specs.declared.Step.the-variants as Step
-use Rattle.command.specs.Findings.{stepIn, onMachine}
+use Rattle.command.specs.Commands.{entry, kindIn}
+use Rattle.command.specs.Findings.{dataOf, stepIn, onMachine}
 use Rattle.command.proofs.Rules.{turn-found}
-use Rattle.command.proofs.Steps.{KeepsCursor, whole, does-turn}
+use Rattle.command.proofs.Steps.{KeepsCursor, step-short, step-bad, step-does, whole, does-turn}
 use Rattle.effect.specs.Effects.{Scene, Machine, screenAfter, fenceAfter, postedAfter, definedAfter, cursorAfter, done}
 use Rattle.run.specs.declared.Pause.the-variants.{Spent, Short, Faults, Long}
 use Rattle.run.specs.Run.{knownOf, machine, table, stamped, posting, postedIn}
@@ -178,13 +180,6 @@ module _ {s : Scene} {budget : ℕ} {memory₀ : List ℕ} {a e : ℕ} {fence₀
 
 -- ---- why it paused
 
--- a step other than a command that is executed
-abbrev pub NotDone : Step → Type 0
-NotDone (Step.Does a n) = ⊥
-NotDone Step.Short = Unit {0}
-NotDone (Step.Faults c) = Unit {0}
-NotDone (Step.Long d) = Unit {0}
-
 module _ (left : ℕ) (row : List ℕ) where
   pub pauses-spent : left ≡ 0 → Pauses Spent left row
   pauses-spent z = record {
@@ -195,8 +190,8 @@ module _ (left : ℕ) (row : List ℕ) where
   }
 
   -- at a step that is not executed
-  pub pauses-at : (step : Step) → NotDone step → 1 ≤ left → stepIn tt row ≡ step → Pauses (pauseOf step) left row
-  pauses-at (Step.Does a n) other h q = absurd other
+  pub pauses-at : (step : Step) → (pauseOf step ≡ Spent → ⊥) → 1 ≤ left → stepIn tt row ≡ step → Pauses (pauseOf step) left row
+  pauses-at (Step.Does a n) other h q = absurd (other refl)
   pauses-at Step.Short other h q = record {
     spent = λ e. absurd (true≢false cc);
     short = λ e. (h, q);
@@ -215,3 +210,17 @@ module _ (left : ℕ) (row : List ℕ) where
     faults = λ c e. absurd (true≢false cc);
     long = λ d e. let same : f ≡ d = cc in (h, q ∙ ap Step.Long same);
   }
+
+-- words of a command of fixed length that are not executed
+module _ (row : List ℕ) (other : pauseOf (stepIn tt row) ≡ Spent → ⊥) (plain : dataOf (kindIn row) ≡ none)
+    (offered : entry (kindIn row) .offered ≡ true) where
+  not-done : entry (kindIn row) .head ≤ length row → entry (kindIn row) .good tt row ≡ true → ⊥
+  not-done all good = other (ap pauseOf (step-does tt row (kindIn row) refl plain offered (entry (kindIn row) .head) refl all good))
+
+  -- they are too few, or an operand is bad
+  pub pauses-fixed : pauseOf (stepIn tt row) ≡ cond (ltb (length row) (entry (kindIn row) .head)) Short (Faults BadOperand)
+  pauses-fixed =
+      cases (ltb (length row) (entry (kindIn row) .head))
+      (λ t. rw t (ap pauseOf (step-short tt row (kindIn row) refl plain offered (ltb-true _ _ t))))
+      (λ f. rw f (cases (entry (kindIn row) .good tt row) (λ t. absurd (not-done (ltb-false _ _ f) t))
+      (λ g. ap pauseOf (step-bad tt row (kindIn row) refl plain offered (entry (kindIn row) .head) refl (ltb-false _ _ f) g))))

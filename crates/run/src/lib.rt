@@ -2,6 +2,7 @@
 use command::Action;
 use command::Data;
 use command::Finding;
+use command::Kind;
 use command::Step;
 use cursor::IMAGE_WORDS;
 use effect::Marks;
@@ -10,21 +11,24 @@ use execution::End;
 use ring::MAX_WORDS;
 use ring::Ring;
 ghost use mathlib.Core.Path.{_≡_};
-ghost use mathlib.Core.Bool.{true};
+ghost use mathlib.Core.Bool.{true, cond};
 ghost use Prim.Native.Nat.{_+_, _/_, _≤_, _<_};
 ghost use mathlib.Core.List.{_++_};
+ghost use lib.Dec.{ltb};
 ghost use lib.ListN.{length, getD, take, drop};
 ghost use lib.Seq.{paste};
+ghost use Rattle.execution.specs.declared.Cause.the-variants.{BadOperand};
 ghost use Rattle.execution.specs.Table.{turnOf};
 ghost use Rattle.cursor.specs.Plane.{imageWords};
 ghost use Rattle.ring.specs.Acceptance.{maxWords};
 ghost use Rattle.ring.specs.Waiting.{between, words, carried};
 ghost use Rattle.command.specs.Commands.{kindIn};
-ghost use Rattle.command.specs.Findings.{kindWith};
+ghost use Rattle.command.specs.Findings.{kindWith, stepIn};
 ghost use Rattle.effect.specs.Effects.{scene, postedAfter, cursorAfter};
+ghost use Rattle.run.specs.declared.Pause.the-variants.{Spent, Short, Faults};
 ghost use Rattle.run.specs.declared.Stop.the-variants.{Goes, Stops};
-ghost use Rattle.run.specs.Turns.{InView, Stands, wordsIn, passedIn, viewOf, Ready, rowEnd, Clear, LineOf, placeOf, ranTo, nextUnusable};
-ghost use Rattle.run.specs.Going.{RowRun, pauseOf, after, turned, DataTurned};
+ghost use Rattle.run.specs.Turns.{InView, Stands, wordsIn, passedIn, viewOf, rowIn, Ready, rowEnd, Clear, LineOf, placeOf, ranTo, nextUnusable};
+ghost use Rattle.run.specs.Going.{RowGoing, RowRun, pauseOf, after, turned, DataTurned};
 ghost use Rattle.run.specs.Run.{machine, table, stamped, postsIn, posting, postedIn, ringOutcome, runWords, fitting, answerOf, runIn};
 
 // The words that wait in a ring from word lo to below word hi: n of them, from word at on.
@@ -233,16 +237,11 @@ struct Paused {
     why: Pause,
 }
 
-// Why they ended at a step, which is not a command of fixed length that lies whole in the row.
-fn pause_of(step: Step) -> Pause
-    ensures { λ r. ⌜ r ≡ pauseOf step ⌝ }
-{
-    match step {
-        Step::Does(_, _) => Pause::Spent,
-        Step::Short => Pause::Short,
-        Step::Faults(cause) => Pause::Faults(cause),
-        Step::Long(tail) => Pause::Long(tail),
-    }
+// The same without the reason, which the loop below does not keep: constants for it would take its registers.
+struct RowEnd {
+    at: usize,
+    fence: u32,
+    left: u32,
 }
 
 // Commands that lie whole in a row of words, from word from up to word end, one after the other. Nothing but what they need stays in this loop.
@@ -257,10 +256,11 @@ fn row_turns(
     screen: &mut [u32],
     width: u32,
     rows: u32,
-) -> Paused
+) -> RowEnd
     requires { ⌜ (4 ≤ from) × (from ≤ end) × (end ≤ length (now memory)) × (end ≤ maxWords) × Clear posts from ⌝ }
-    ensures { λ r. ⌜ RowRun (scene width rows (now (framebuffer .entry)) posts) budget (now (memory .entry)) from end before (now (screen .entry))
-        r (now (memory .exit)) (now (screen .exit)) ⌝ }
+    ensures { λ r. ⌜ RowGoing (scene width rows (now (framebuffer .entry)) posts) budget (now (memory .entry)) from end before (now (screen .entry))
+        (r .at) (r .fence) (r .left) (now (memory .exit)) (now (screen .exit))
+        × (1 ≤ r .left → pauseOf (stepIn tt (rowIn (now (memory .entry)) (r .at) end)) ≡ Spent → ⊥) ⌝ }
 {
     let mut at = from;
     let mut fence = before;
@@ -268,26 +268,89 @@ fn row_turns(
     while 0 < left {
         let step = command::step_in(&memory[at..end]);
         let Step::Does(action, size) = step else {
-            let why = pause_of(step);
-            return Paused {
-                at,
-                fence,
-                left,
-                why,
-            };
+            return RowEnd { at, fence, left };
         };
         effect::draw(action, framebuffer, screen, width, rows);
-        fence = effect::fence_after(action, fence);
         post_fence(action, posts, memory);
         at += size;
         stamp(memory, at);
         left -= 1;
+        fence = effect::fence_after(action, fence);
     }
+    RowEnd { at, fence, left }
+}
+
+// Why a command of fixed length is not executed, of which so many words lie in the row and which has size words.
+fn fixed_pause(words: usize, size: usize) -> Pause
+    ensures { λ r. ⌜ r ≡ cond (ltb words size) Short (Faults BadOperand) ⌝ }
+{
+    if words < size {
+        return Pause::Short;
+    }
+    Pause::Faults(Cause::BadOperand)
+}
+
+// Why words at which commands in a row ended are not executed: a command of fixed length is short, or all there with a bad operand, whatever its check is.
+fn pause_in(row: &[u32]) -> Pause
+    requires { ⌜ (pauseOf (stepIn tt (now row)) ≡ Spent → ⊥) ⌝ }
+    ensures { λ r. ⌜ r ≡ pauseOf (stepIn tt (now (row .entry))) ⌝ }
+{
+    if row.len() == 0 {
+        return Pause::Short;
+    }
+    let kind = command::kind_of(row[0]);
+    match kind {
+        Kind::DefineAlphaCursor => Pause::Long(Data::Cursor),
+        Kind::Escape => Pause::Long(Data::Escape),
+        Kind::Foreign => Pause::Faults(Cause::NotOffered),
+        _ => fixed_pause(row.len(), command::head_words(kind)),
+    }
+}
+
+// At most one command out of a line, from word 7 of it up to word end, and why none was executed.
+fn line_turn(
+    end: usize,
+    before: u32,
+    posts: bool,
+    line: &mut [u32],
+    framebuffer: &[u32],
+    screen: &mut [u32],
+    width: u32,
+    rows: u32,
+) -> Paused
+    requires { ⌜ (7 ≤ end) × (end ≤ length (now line)) × (end ≤ maxWords) ⌝ }
+    ensures { λ r. ⌜ RowRun (scene width rows (now (framebuffer .entry)) posts) 1 (now (line .entry)) 7 end before (now (screen .entry))
+        r (now (line .exit)) (now (screen .exit)) ⌝ }
+{
+    let p = row_turns(
+        7,
+        end,
+        before,
+        1,
+        posts,
+        line,
+        framebuffer,
+        screen,
+        width,
+        rows,
+    );
+    let at = p.at;
+    let fence = p.fence;
+    let left = p.left;
+    if left == 0 {
+        return Paused {
+            at,
+            fence,
+            left,
+            why: Pause::Spent,
+        };
+    }
+    let why = pause_in(&line[at..end]);
     Paused {
         at,
         fence,
         left,
-        why: Pause::Spent,
+        why,
     }
 }
 
@@ -430,11 +493,9 @@ fn one_turn(
     }
     let mut line = [0u32; 17];
     let end = fill_line(ring, v, &mut line);
-    let p = row_turns(
-        7,
+    let p = line_turn(
         end,
         marks.fence,
-        1,
         posts,
         &mut line,
         framebuffer,

@@ -37,7 +37,7 @@ returns c =
     rw (c .stopped .ensures) (stops s (a .v) (a .ring .now) m _ (turn-drained _ (a .v) (a .ring .now) _ (c .before .if1 .taken)))
 
 -- the line and its turns
-module _ (c : tie.After-row-turns) where
+module _ (c : tie.After-line-turn) where
   abbrev filled : tie.After-fill-line
   filled = c .before .before .before .before
 
@@ -62,20 +62,20 @@ module _ (c : tie.After-row-turns) where
   abbrev m : Machine
   m = machine (entry .args .marks) (entry .args .screen .now) (entry .args .cursor .now) (postedIn (entry .args .posts) ring)
 
-  fits : c .row-turns .result .at - 7 ≤ v .n
-  fits = line-fits s v ring (stand .inside) (stand .carries) (filled .fill-line .ensures) (c .row-turns .ensures .0)
+  fits : c .line-turn .result .at - 7 ≤ v .n
+  fits = line-fits s v ring (stand .inside) (stand .carries) (filled .fill-line .ensures) (c .line-turn .ensures .0)
 
 -- the row's turns, seen from what follows them
-abbrev by-spent : tie.After-enum-told → tie.After-row-turns
+abbrev by-spent : tie.After-enum-told → tie.After-line-turn
 by-spent c = c .before .before .before .before .before
 
-abbrev by-short : tie.After-enum-told2 → tie.After-row-turns
+abbrev by-short : tie.After-enum-told2 → tie.After-line-turn
 by-short c = c .before .before .before .before .before
 
-abbrev by-fault : tie.After-why → tie.After-row-turns
+abbrev by-fault : tie.After-why → tie.After-line-turn
 by-fault c = c .before .before .before .before .before
 
-abbrev by-data : tie.After-why2 → tie.After-row-turns
+abbrev by-data : tie.After-why2 → tie.After-line-turn
 by-data c = c .before .before .before .before .before
 
 abbrev at-data : tie.After-data-turn → tie.After-why2
@@ -100,39 +100,39 @@ returns-2 c =
     let t = posted p in
     let r = by-spent t in
     let a = entry r .args in
-    let z = r .row-turns .ensures .1 .spent (t .enum-told .given .1) in
+    let z = r .line-turn .ensures .1 .spent (t .enum-told .given .1) in
     rw (e .executed .ensures .0)
-    (line-goes (s r) (v r) (ring r) (stand r .inside) (stand r .carries) (filled r .fill-line .ensures) (r .row-turns .ensures .0) z
+    (line-goes (s r) (v r) (ring r) (stand r .inside) (stand r .carries) (filled r .fill-line .ensures) (r .line-turn .ensures .0) z
     (a .marks .defined) (a .cursor .now) _ _ (p .bring-posted .ensures) (e .executed .ensures .1))
 
 -- it stopped
 returns-3 : tie.Need-returns-3
 returns-3 c =
     let r = by-short (c .before) in
-    let z = r .row-turns .ensures .1 .short (c .before .enum-told2 .given .1) in
-    let kept = line-kept (s r) (v r) (ring r) (stand r .inside) (stand r .carries) (filled r .fill-line .ensures) (r .row-turns .ensures .0) (z .0) in
+    let z = r .line-turn .ensures .1 .short (c .before .enum-told2 .given .1) in
+    let kept = line-kept (s r) (v r) (ring r) (stand r .inside) (stand r .carries) (filled r .fill-line .ensures) (r .line-turn .ensures .0) (z .0) in
     rw (c .stopped2 .ensures, kept)
     (stops (s r) (v r) (ring r) (m r) _
-    (line-short (s r) (v r) (ring r) (stand r .inside) (stand r .carries) (filled r .fill-line .ensures) (r .row-turns .ensures .0) (z .0) (z .1) (some-words r) (m r)))
+    (line-short (s r) (v r) (ring r) (stand r .inside) (stand r .carries) (filled r .fill-line .ensures) (r .line-turn .ensures .0) (z .0) (z .1) (some-words r) (m r)))
 
 returns-4 : tie.Need-returns-4
 returns-4 c =
     let w = c .before .before in
     let r = by-fault w in
-    let z = r .row-turns .ensures .1 .faults _ (w .why .given .1) in
-    let kept = line-kept (s r) (v r) (ring r) (stand r .inside) (stand r .carries) (filled r .fill-line .ensures) (r .row-turns .ensures .0) (z .0) in
+    let z = r .line-turn .ensures .1 .faults _ (w .why .given .1) in
+    let kept = line-kept (s r) (v r) (ring r) (stand r .inside) (stand r .carries) (filled r .fill-line .ensures) (r .line-turn .ensures .0) (z .0) in
     rw (c .stopped3 .ensures, kept)
     (stops (s r) (v r) (ring r) (m r) _
-    (line-faults (s r) (v r) (ring r) (stand r .inside) (stand r .carries) (filled r .fill-line .ensures) (r .row-turns .ensures .0) (z .0) _ (z .1) (m r)))
+    (line-faults (s r) (v r) (ring r) (stand r .inside) (stand r .carries) (filled r .fill-line .ensures) (r .line-turn .ensures .0) (z .0) _ (z .1) (m r)))
 
 -- a command with data
 data-turn-requires : tie.Need-data-turn-requires
 data-turn-requires c κs =
     let w = c .before .before .before .before .before in
     let r = by-data w in
-    let z = r .row-turns .ensures .1 .long _ (w .why2 .given .1) in
-    let same = line-same (s r) (v r) (ring r) (stand r .inside) (stand r .carries) (filled r .fill-line .ensures) (r .row-turns .ensures .0) (z .0) in
-    let kind = line-long (s r) (v r) (ring r) (stand r .inside) (stand r .carries) (filled r .fill-line .ensures) (r .row-turns .ensures .0) (z .0) _ (z .1) in
+    let z = r .line-turn .ensures .1 .long _ (w .why2 .given .1) in
+    let same = line-same (s r) (v r) (ring r) (stand r .inside) (stand r .carries) (filled r .fill-line .ensures) (r .line-turn .ensures .0) (z .0) in
+    let kind = line-long (s r) (v r) (ring r) (stand r .inside) (stand r .carries) (filled r .fill-line .ensures) (r .line-turn .ensures .0) (z .0) _ (z .1) in
     let by-min = subst (λ (b : Bool). Stands b (v r) (ring r) (entry r .args .cursor .now)) (stand r .posted) (stand r) in
     (by-min, (some-words r, rw same (filled r .fill-line .ensures .row), kind))
 
@@ -141,8 +141,8 @@ returns-5 c =
     let d = c .before .before .before .before in
     let w = at-data d in
     let r = by-data w in
-    let z = r .row-turns .ensures .1 .long _ (w .why2 .given .1) in
-    rw (line-kept (s r) (v r) (ring r) (stand r .inside) (stand r .carries) (filled r .fill-line .ensures) (r .row-turns .ensures .0) (z .0)) (d .data-turn .ensures (s r) (entry r .args .screen .now))
+    let z = r .line-turn .ensures .1 .long _ (w .why2 .given .1) in
+    rw (line-kept (s r) (v r) (ring r) (stand r .inside) (stand r .carries) (filled r .fill-line .ensures) (r .line-turn .ensures .0) (z .0)) (d .data-turn .ensures (s r) (entry r .args .screen .now))
 
 pub one-turn-spec : {M : Type 1} → statement M
 one-turn-spec =
@@ -154,13 +154,13 @@ one-turn-spec =
     (λ c κs. let h = start (c .before .before .before) .pre in (h .inside, (omega (arith, h .carries, h .inside .fits), search needs)))
     (λ c. search needs)
     (λ c κs. let f = c .before .before .before .fill-line .ensures in
-    (omega arith, f .low, omega (arith, f .size, f .high), omega (arith, f .high), λ t. omega arith))
+    (f .low, omega (arith, f .size, f .high), omega (arith, f .high)))
     (λ c. search needs)
     (λ c. search needs)
     (λ c κs. let r = by-spent (c .before .before) in
     let h = stand r in
-    (omega (arith, filled r .fill-line .ensures .size, r .row-turns .kept .1 .1 .1 .1 .1 .0), omega (arith, h .carries, h .inside .fits)))
-    (λ c. omega (arith, by-spent (posted (c .before .before .before)) .row-turns .ensures .0 .from))
+    (omega (arith, filled r .fill-line .ensures .size, r .line-turn .kept .1 .1 .1 .0), omega (arith, h .carries, h .inside .fits)))
+    (λ c. omega (arith, by-spent (posted (c .before .before .before)) .line-turn .ensures .0 .from))
     executed-requires
     (λ c. search needs)
     (λ c. search needs)

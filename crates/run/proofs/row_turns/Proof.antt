@@ -1,6 +1,7 @@
 -- `run::row_turns` meets its contract. The invariant: whatever follows the row, the run still to do from here is the whole run.
 -- Assumes nothing.
 use mathlib.Core.Path.{_≡_, refl, sym, ap, _∙_}
+use mathlib.Core.Bool.{true≢false}
 use mathlib.Core.Logic.{⊎-elim}
 use mathlib.Core.List.{List, [], _∷_}
 use Prim.Native.Nat.{ℕ, _+_, _≤_, _<_}
@@ -14,10 +15,11 @@ use Rattle.command.specs.declared.Step.the-variants.{Does, Short, Faults, Long}
 use Rattle.command.proofs.Step as S
 use Rattle.command.specs.Findings.{stepIn}
 use Rattle.effect.specs.Effects.{scene}
+use Rattle.run.specs.declared.Pause.the-variants.{Spent}
 use Rattle.run.specs.Run.{stamped}
 use Rattle.run.specs.Turns.{rowIn, Clear}
-use Rattle.run.specs.Going.{RowGoing}
-use Rattle.run.proofs.Rows.{row-start, same-row, row-same-length, row-clear, row-fits, row-more, NotDone, pauses-spent, pauses-at}
+use Rattle.run.specs.Going.{pauseOf, RowGoing}
+use Rattle.run.proofs.Rows.{row-start, same-row, row-same-length, row-clear, row-fits, row-more}
 use Rattle.run.proofs.row_turns.Statement.{statement}
 use Rattle.run.proofs.row_turns.Tie as tie
 
@@ -76,44 +78,42 @@ module _ (c : tie.After-step Inv-loop μ-loop) where
   fits : (1 ≤ c .step .given .0 .1 .0) × (at-loop turn .loop .at + c .step .given .0 .1 .0 ≤ Start (at-loop turn) .args .end)
   fits = row-fits (low (at-loop turn)) (there (at-loop turn)) (clear (at-loop turn)) (at-loop turn .loop .inv .0) _ _ does
 
-abbrev drawn : tie.After-fence-after Inv-loop μ-loop → tie.After-draw Inv-loop μ-loop
-drawn c = c .before .before .before
+-- it was drawn, its fence posted, and word 3 written
+abbrev step : tie.After-draw Inv-loop μ-loop → tie.After-step Inv-loop μ-loop
+step c = c .before .before .before
 
-abbrev done : tie.After-fence-after Inv-loop μ-loop → tie.After-step Inv-loop μ-loop
-done c = drawn c .before .before .before
+abbrev drawn : tie.After-post-fence Inv-loop μ-loop → tie.After-draw Inv-loop μ-loop
+drawn c = c .before .before .before .before
 
--- its fence was posted, and word 3 written
-abbrev posted : tie.After-post-fence Inv-loop μ-loop → tie.After-fence-after Inv-loop μ-loop
-posted c = c .before .before
+abbrev posted : tie.After-slice-known5 Inv-loop μ-loop → tie.After-post-fence Inv-loop μ-loop
+posted c = c .before .before .before .before .before .before
 
-abbrev stamped-at : tie.After-slice-known5 Inv-loop μ-loop → tie.After-post-fence Inv-loop μ-loop
-stamped-at c = c .before .before .before .before .before .before
+some-left : (c : tie.After-slice-known5 Inv-loop μ-loop) → 0 < at-loop (turn (step (drawn (posted c)))) .loop .left
+some-left c = entered (turn (step (drawn (posted c))))
 
 loop-again : tie.Need-loop-again Inv-loop μ-loop
 loop-again c =
-    let post = stamped-at c in
-    let fence = posted post in
-    let step = done fence in
-    let at = at-loop (turn step) in
-    let draw = drawn fence .draw in
-    let wrote = c .before .before .stamp .ensures ∙ ap (stamped (at .loop .at + step .step .given .0 .1 .0)) (post .post-fence .ensures) in (
-      row-more (low at) (there at) (clear at) (at .loop .inv .0) _ _ (does step) (entered (turn step)) _ wrote _ (draw .ensures _) _
-          (fence .fence-after .ensures),
-      draw .kept .1 .1 .0 ∙ at .loop .inv .1,
+    let post = posted (c .before) in
+    let draw = drawn post in
+    let at = at-loop (turn (step draw)) in
+    let wrote = c .before .before .before .stamp .ensures ∙ ap (stamped (at .loop .at + step draw .step .given .0 .1 .0)) (post .post-fence .ensures) in (
+      row-more (low at) (there at) (clear at) (at .loop .inv .0) _ _ (does (step draw)) (some-left (c .before)) _ wrote _ (draw .draw .ensures _) _
+          (c .fence-after .ensures),
+      draw .draw .kept .1 .1 .0 ∙ at .loop .inv .1,
     )
 
 -- a step that is not executed
-not-done : (step : Step) → OneOf (1 ∷ 2 ∷ 3 ∷ []) (tagOf S.the-type step) → NotDone step
-not-done (Does a n) o = ⊎-elim (λ e. omega arith) (⊎-elim (λ e. omega arith) (λ e. omega arith)) o
-not-done Short o = tt
-not-done (Faults c) o = tt
-not-done (Long d) o = tt
+not-spent : (step : Step) → OneOf (1 ∷ 2 ∷ 3 ∷ []) (tagOf S.the-type step) → pauseOf step ≡ Spent → ⊥
+not-spent (Does a n) o q = ⊎-elim (λ e. omega arith) (⊎-elim (λ e. omega arith) (λ e. omega arith)) o
+not-spent Short o q = true≢false cc
+not-spent (Faults c) o q = true≢false cc
+not-spent (Long d) o q = true≢false cc
 
 returns : tie.Need-returns Inv-loop μ-loop
 returns c =
-    let turn = c .before .before in
+    let turn = c .before in
     let at = at-loop turn in
-    (at .loop .inv .0, rw (c .pause-of .ensures) (pauses-at _ _ (turn .step-in .result) (not-done (turn .step-in .result) (c .before .match .keys2)) (entered turn) (rw (← same at) (sym (turn .step-in .ensures)))))
+    (at .loop .inv .0, λ h q. not-spent (turn .step-in .result) (c .match .keys2) (ap pauseOf (turn .step-in .ensures ∙ ap (stepIn tt) (same at)) ∙ q))
 
 pub row-turns-spec : {M : Type 1} → statement M
 row-turns-spec =
@@ -128,23 +128,22 @@ row-turns-spec =
     (λ c. let b = bounds (c .before .before) in omega arith)
     (λ c κs. search needs)
     (λ c. search needs)
-    (λ c κs. search needs)
-    (λ c. lengths (at-loop (c .before .before)))
-    (λ c. at-loop (c .before .before) .loop .inv .1)
+    (λ c. lengths (at-loop (c .before)))
+    (λ c. at-loop (c .before) .loop .inv .1)
     returns
     (λ c κs. search needs)
-    (λ c κs. search needs)
-    (λ c κs. let at = at-loop (turn (done (c .before))) in row-clear (low at) (there at) (clear at) (at .loop .inv .0))
-    (λ c. let step = done (posted (c .before .before)) in let b = bounds (at-loop (turn step)) in let f = fits step in omega arith)
+    (λ c κs. let at = at-loop (turn (step (c .before .before .before))) in row-clear (low at) (there at) (clear at) (at .loop .inv .0))
+    (λ c. let d = step (drawn (c .before .before)) in let b = bounds (at-loop (turn d)) in let f = fits d in omega arith)
     (λ c κs. let post = c .before .before .before in
-    let step = done (posted post) in
-    let b = bounds (at-loop (turn step)) in
-    let f = fits step in
+    let d = step (drawn post) in
+    let b = bounds (at-loop (turn d)) in
+    let f = fits d in
     let l = post .post-fence .kept .1 .1 .0 in
     (omega arith, omega arith))
-    (λ c. omega (arith, entered (turn (done (posted (stamped-at c))))))
-    (λ c. omega (arith, entered (turn (done (posted (stamped-at c))))))
+    (λ c. omega (arith, some-left c))
+    (λ c κs. search needs)
+    (λ c. omega (arith, some-left (c .before)))
     loop-again
     (λ c. lengths (c .before))
     (λ c. c .before .loop .inv .1)
-    (λ c. (c .before .loop .inv .0, pauses-spent _ _ (omega (arith, c .loop-test .left)))))
+    (λ c. (c .before .loop .inv .0, λ h q. omega (arith, h, c .loop-test .left))))
