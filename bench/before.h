@@ -1,5 +1,5 @@
 // The calls of svga.h, made to an older archive: before_run takes what svga_run takes today, and so on. What the older archive takes is
-// the business of before.c.
+// the business of before.c. svga_append_command is left out: no stream makes it.
 #ifndef BENCH_BEFORE_H
 #define BENCH_BEFORE_H
 

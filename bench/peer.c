@@ -315,3 +315,59 @@ uint32_t peer_picture(const struct peer *p, const uint32_t *screen, size_t scree
     }
     return SVGA_ANSWER_TAKEN;
 }
+
+// ---- the guest's writer
+
+// Whether a device would take a command of this number and these arguments; if so, its pixels and bytes.
+static bool command_good(const uint32_t *a, size_t n, uint32_t *pixels, uint32_t *bytes) {
+    *pixels = *bytes = 0;
+    if (n == 0) return false;
+    switch (a[0]) {
+    case SVGA_CMD_UPDATE: return n == 5;
+    case SVGA_CMD_RECT_FILL: return n == 6;
+    case SVGA_CMD_RECT_COPY: return n == 7;
+    case SVGA_CMD_RECT_ROP_FILL: return n == 7 && a[6] <= SVGA_ROP_SET;
+    case SVGA_CMD_RECT_ROP_COPY: return n == 8 && a[7] <= SVGA_ROP_SET;
+    case SVGA_CMD_UPDATE_VERBOSE: return n == 6;
+    case SVGA_CMD_FENCE: return n == 2;
+    case SVGA_CMD_DEFINE_ALPHA_CURSOR:
+        if (n != 6 || !cursor_head_good(a + 1)) return false;
+        *pixels = a[4] * a[5];
+        return true;
+    case SVGA_CMD_ESCAPE:
+        if (n != 3) return false;
+        *bytes = a[2];
+        return true;
+    default: return false;
+    }
+}
+
+// Words one by one from ring word `at` on, max becoming min; gives the place behind them.
+static uint32_t put_words(uint32_t *ring, uint32_t min, uint32_t max, uint32_t at, const uint32_t *words, size_t n) {
+    for (size_t i = 0; i < n; i++) {
+        ring[at] = words[i];
+        if (++at == max) at = min;
+    }
+    return at;
+}
+
+uint32_t peer_append_command(uint32_t *ring, size_t ring_len, const uint32_t *command, size_t command_len, const uint32_t *pixels,
+                             size_t pixels_len, const uint8_t *data, size_t data_len) {
+    if (!ring_good(ring, ring_len)) return SVGA_ANSWER_RING_REFUSED;
+    uint32_t min = ring[SVGA_FIFO_MIN] / 4, max = ring[SVGA_FIFO_MAX] / 4, carried = max - min - 1;
+    uint32_t at = ring[SVGA_FIFO_NEXT_CMD] / 4, stop = ring[SVGA_FIFO_STOP] / 4, pixels_asked, bytes_asked;
+    if (!command_good(command, command_len, &pixels_asked, &bytes_asked)) return SVGA_ANSWER_NOT_A_COMMAND;
+    uint64_t words = command_len + pixels_asked + ((uint64_t)bytes_asked + 3) / 4;
+    if (words > carried) return SVGA_ANSWER_NOT_A_COMMAND;
+    if (pixels_len != pixels_asked || data_len != bytes_asked) return SVGA_ANSWER_LENT_LENGTH;
+    if (words > (at < stop ? stop - at - 1 : carried - (at - stop))) return SVGA_ANSWER_NO_ROOM;
+    at = put_words(ring, min, max, at, command, command_len);
+    at = put_words(ring, min, max, at, pixels, pixels_len);
+    for (size_t i = 0; i < data_len; i += 4) {
+        uint32_t word = 0;
+        memcpy(&word, data + i, data_len - i < 4 ? data_len - i : 4); // x86-64 stores the lowest byte first
+        at = put_words(ring, min, max, at, &word, 1);
+    }
+    ring[SVGA_FIFO_NEXT_CMD] = at * 4;
+    return SVGA_ANSWER_TAKEN;
+}

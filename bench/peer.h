@@ -40,6 +40,8 @@ uint32_t peer_picture(const struct peer *p, const uint32_t *screen, size_t scree
 uint64_t peer_fence(const struct peer *p);
 uint64_t peer_fence_passed(const struct peer *p, uint32_t fence);
 uint32_t peer_append(uint32_t *ring, size_t ring_len, uint32_t word);
+uint32_t peer_append_command(uint32_t *ring, size_t ring_len, const uint32_t *command, size_t command_len, const uint32_t *pixels,
+                             size_t pixels_len, const uint8_t *data, size_t data_len);
 
 // ---- painting, as the peer does it, and as it is done with nothing parsed
 

@@ -1,7 +1,8 @@
 /*
  * svga.h: the host side of a VMware SVGA II display adapter.
  *
- * Link libsvga.a (`rt staticlib svga` writes it to target/staticlib); it needs memmove of the C library and nothing else. C99 or C++.
+ * Link libsvga.a (`rt staticlib svga` writes it to target/staticlib); it needs memcpy and memmove of the C library and nothing else. C99 or
+ * C++.
  *
  * The library has no memory of its own and keeps no pointer. A device is SVGA_DEVICE_WORDS words that you hold, and each call is lent
  * the memories that it works on, each as a pointer and a length in 32-bit words:
@@ -13,6 +14,8 @@
  *     cursor        SVGA_CURSOR_WORDS words: the cursor image
  *     output        P words: a finished picture
  *
+ * and to append a command (svga_append_command), beside the ring, the command's words, its pixels, and its data, whose length is in bytes.
+ *
  * Pixel (x, y) stands at word y * width + x of framebuffer, screen and output, as 0x00RRGGBB.
  *
  * What you have to hold to:
@@ -22,7 +25,8 @@
  *     After a run on a copy of the ring write back word SVGA_FIFO_FENCE if the run changed it, and then word SVGA_FIFO_STOP if it did. It
  *     changes word SVGA_FIFO_FENCE only where the ring was accepted with a MIN of 28 or more (device word 25 is 7 or more before the
  *     run): below 28 that word is one of the ring's own, and the guest may have written it. A run changes no other ring word.
- *   - A pointer has its length's words behind it and is aligned for uint32_t. Where the length is 0 it may be NULL.
+ *   - A pointer has its length's words behind it and is aligned for uint32_t; one to a command's data has its length's bytes behind it.
+ *     Where the length is 0 it may be NULL.
  *
  * What you need not look at:
  *   - Contents. Any value in any lent word is safe, ring and device words included, and so is any length: each has an answer.
@@ -40,7 +44,7 @@
 extern "C" {
 #endif
 
-/* Functions, answers and the layout of the device words are those of this version. */
+/* Signatures and the layout of the device words are those of this version. A function or an answer that is added leaves it as it is. */
 #define SVGA_ABI_VERSION 1
 
 /* ---- Lengths, in 32-bit words */
@@ -64,7 +68,7 @@ extern "C" {
 
 /* ---- Answers */
 
-/* svga_make, svga_write, svga_read, svga_picture, svga_offscreen, svga_fence, svga_fence_passed */
+/* svga_make, svga_write, svga_read, svga_picture, svga_offscreen, svga_fence, svga_fence_passed, svga_append_command */
 #define SVGA_ANSWER_TAKEN 0 /* done */
 
 /* svga_run: where the run ended */
@@ -79,7 +83,7 @@ extern "C" {
 #define SVGA_ANSWER_BAD_NEXT_CMD 13 /* NEXT_CMD is no multiple of 4, or outside the ring */
 
 /* Refusals: nothing has changed. */
-#define SVGA_ANSWER_LENT_LENGTH 20    /* a lent length is not the one that the device was made for */
+#define SVGA_ANSWER_LENT_LENGTH 20    /* a lent length is not the one that the device was made for; append_command: that the command has */
 #define SVGA_ANSWER_DISABLED 21       /* run: ENABLE is 0 */
 #define SVGA_ANSWER_NOT_CONFIGURED 22 /* run: CONFIG_DONE is 0 */
 #define SVGA_ANSWER_FAULT_STANDS 23   /* run: an earlier run ended in a fault */
@@ -87,8 +91,10 @@ extern "C" {
 #define SVGA_ANSWER_NO_REGISTER 30    /* write, read: no such register; these, offscreen and fences: the device words are none */
 #define SVGA_ANSWER_READ_ONLY 31      /* write: the register is read-only */
 #define SVGA_ANSWER_BAD_VALUE 32      /* write: the value is outside the register's range */
-#define SVGA_ANSWER_RING_REFUSED 33   /* write of CONFIG_DONE 1: ring words 0 to 3 are no usable ring */
+#define SVGA_ANSWER_RING_REFUSED 33   /* write of CONFIG_DONE 1, append_command: ring words 0 to 3 are no usable ring */
 #define SVGA_ANSWER_BAD_SIZES 34      /* make: M or P is outside its limits; there is no device */
+#define SVGA_ANSWER_NO_ROOM 40        /* append_command: the ring could hold the command, but too few of its words are free now */
+#define SVGA_ANSWER_NOT_A_COMMAND 41  /* append_command: no command, or one at which a device would fault */
 
 /* svga_append */
 #define SVGA_APPEND_TAKEN 0
@@ -217,7 +223,7 @@ extern "C" {
  * Words are well-formed if M and P are within their limits; WIDTH and HEIGHT are ones that a write takes; words 3, 6, 12, 16 and 23 are
  * 0 or 1; word 24 is one of those named, with CONFIG_DONE 0 where it is 0 and 1 where it is 1; a ring has 4 <= MIN,
  * MIN + 2560 <= MAX <= M / 4 and MIN <= STOP < MAX; a defined cursor has w and h from 1 to 64, hotx < w and hoty < h; and what is said to
- * be 0 is 0, the spare words included. Every call but svga_make looks at this first, right after the device's length
+ * be 0 is 0, the spare words included. Every call on a device but svga_make looks at this first, right after its length
  * (svga_offscreen after both of its lengths). Words that fail are refused and nothing changes:
  *
  *     svga_write, svga_read, svga_offscreen, svga_fence, svga_fence_passed    SVGA_ANSWER_NO_REGISTER
@@ -332,6 +338,32 @@ uint64_t svga_fence_passed(const uint32_t *device, size_t device_len, uint32_t f
  *   SVGA_APPEND_REFUSED  the ring is full, or its words 0 to 3 are not ones that CONFIG_DONE 1 would accept with M = 4 * ring_len
  */
 uint32_t svga_append(uint32_t *ring, size_t ring_len, uint32_t word);
+
+/*
+ * Appends a command to the ring, as a guest does: all its words, or none. command[0] is its number, and behind it stand its arguments in
+ * the order in which they stand at SVGA_CMD_* above: 6 words for a RECT_FILL, 2 for a FENCE. Pixels and data are lent beside it:
+ *
+ *     SVGA_CMD_DEFINE_ALPHA_CURSOR   w * h pixels, no data
+ *     SVGA_CMD_ESCAPE                `size` bytes of data, no pixels; they go lowest first into each word, and zeros fill up the last
+ *     every other command            neither: NULL, 0
+ *
+ * The words are stored from NEXT_CMD on, MAX becoming MIN, and NEXT_CMD once, after all of them. STOP is read from ring word
+ * SVGA_FIFO_STOP: free are the words from NEXT_CMD up to it, all round where the two are equal, but for the last one, which is never
+ * filled. Changes ring word SVGA_FIFO_NEXT_CMD and the free words that the command fills; where it is refused, nothing.
+ *
+ * All of these are plain stores. Memory order between processors is the host's affair: let no device run on this ring during the call, and
+ * put a barrier behind it before a device on another processor may look.
+ *
+ *   SVGA_ANSWER_TAKEN          done
+ * Refusals, in the order in which they are looked for:
+ *   SVGA_ANSWER_RING_REFUSED   ring words 0 to 3 are not there, or not ones that CONFIG_DONE 1 would accept with M = 4 * ring_len, any M
+ *   SVGA_ANSWER_NOT_A_COMMAND  command_len is 0; the number is none of SVGA_CMD_*, or another number of arguments stands behind it; or a
+ *                              device with this ring would fault at it: SVGA_ANSWER_BAD_OPERAND or SVGA_ANSWER_TOO_LONG
+ *   SVGA_ANSWER_LENT_LENGTH    pixels_len or data_len is another than the one above
+ *   SVGA_ANSWER_NO_ROOM        the ring could hold the command, but too few of its words are free now: try again after a run
+ */
+uint32_t svga_append_command(uint32_t *ring, size_t ring_len, const uint32_t *command, size_t command_len, const uint32_t *pixels,
+                             size_t pixels_len, const uint8_t *data, size_t data_len);
 
 /* ---- Taking answers apart */
 

@@ -7,6 +7,7 @@
 #include <stdio.h>
 #include <stdlib.h>
 
+#define COUNT(a) (sizeof(a) / sizeof *(a))
 enum { WIDTH = 320, HEIGHT = 200, PIXELS = WIDTH * HEIGHT, RING_BYTES = 16384, RING_WORDS = RING_BYTES / 4 };
 
 // The memories. In a hypervisor ring and framebuffer are the guest's.
@@ -30,22 +31,34 @@ static uint32_t run(uint32_t budget) {
     return svga_value_of(result);
 }
 
-// Appends a word, as the guest does; where the ring is full, the guest waits and the host runs.
-static void append(uint32_t word) {
-    while (svga_append(ring, RING_WORDS, word) != SVGA_APPEND_TAKEN)
-        if (run(UINT32_MAX) == 0) give_up("append", SVGA_APPEND_REFUSED);
+// Appends a command, as the guest does: its number and arguments, and the pixels of a cursor. Where the ring has no room for all of it, the
+// guest waits and the host runs.
+static void append_with(const uint32_t *command, size_t command_len, const uint32_t *pixels, size_t pixels_len) {
+    uint32_t answer;
+    while ((answer = svga_append_command(ring, RING_WORDS, command, command_len, pixels, pixels_len, NULL, 0)) != SVGA_ANSWER_TAKEN)
+        if (answer != SVGA_ANSWER_NO_ROOM || run(UINT32_MAX) == 0) give_up("append", answer);
 }
 
+static void append(const uint32_t *command, size_t command_len) { append_with(command, command_len, NULL, 0); }
+
 static void fill(uint32_t colour, uint32_t x, uint32_t y, uint32_t w, uint32_t h) {
-    append(SVGA_CMD_RECT_FILL), append(colour), append(x), append(y), append(w), append(h);
+    const uint32_t command[] = {SVGA_CMD_RECT_FILL, colour, x, y, w, h};
+    append(command, COUNT(command));
 }
 
 static void rop_fill(uint32_t colour, uint32_t x, uint32_t y, uint32_t w, uint32_t h, uint32_t rop) {
-    append(SVGA_CMD_RECT_ROP_FILL), append(colour), append(x), append(y), append(w), append(h), append(rop);
+    const uint32_t command[] = {SVGA_CMD_RECT_ROP_FILL, colour, x, y, w, h, rop};
+    append(command, COUNT(command));
 }
 
 static void copy(uint32_t sx, uint32_t sy, uint32_t dx, uint32_t dy, uint32_t w, uint32_t h) {
-    append(SVGA_CMD_RECT_COPY), append(sx), append(sy), append(dx), append(dy), append(w), append(h);
+    const uint32_t command[] = {SVGA_CMD_RECT_COPY, sx, sy, dx, dy, w, h};
+    append(command, COUNT(command));
+}
+
+static void update(uint32_t x, uint32_t y, uint32_t w, uint32_t h) {
+    const uint32_t command[] = {SVGA_CMD_UPDATE, x, y, w, h};
+    append(command, COUNT(command));
 }
 
 // What a driver does first: the version, the mode, the ring.
@@ -78,7 +91,7 @@ static void draw(void) {
     // the guest draws a flag in the framebuffer and has it brought to the screen
     for (uint32_t y = 0; y < 16; y++)
         for (uint32_t x = 0; x < 32; x++) framebuffer[(96 + y) * WIDTH + 144 + x] = (x / 4 + y / 4) % 2 ? 0xF0F0F0 : 0x2050A0;
-    append(SVGA_CMD_UPDATE), append(144), append(96), append(32), append(16);
+    update(144, 96, 32, 16);
     fill(0x302820, 142, 92, 2, 48);
     copy(142, 92, 300, 92, UINT32_MAX, 48); // flown again at the right: what lies outside is cut
 }
@@ -86,13 +99,15 @@ static void draw(void) {
 // An arrow with a soft shadow, hotspot at its tip.
 static void show_cursor(void) {
     enum { ID = 5, SIDE = 16 };
-    append(SVGA_CMD_DEFINE_ALPHA_CURSOR), append(ID), append(0), append(0), append(SIDE), append(SIDE);
+    const uint32_t command[] = {SVGA_CMD_DEFINE_ALPHA_CURSOR, ID, 0, 0, SIDE, SIDE};
+    uint32_t pixels[SIDE * SIDE];
     for (uint32_t y = 0; y < SIDE; y++)
         for (uint32_t x = 0; x < SIDE; x++) {
             int inside = x <= y && 4 * x + 11 * y <= 150, edge = x == 0 || x == y || 4 * x + 11 * y > 138;
             int shadow = x <= y + 1 && 4 * x + 11 * y <= 172;
-            append(inside ? (edge ? 0xFF000000u : 0xFFFFFFFFu) : shadow ? 0x60000000u : 0);
+            pixels[y * SIDE + x] = inside ? (edge ? 0xFF000000u : 0xFFFFFFFFu) : shadow ? 0x60000000u : 0;
         }
+    append_with(command, COUNT(command), pixels, COUNT(pixels));
     write_register("CURSOR_ID", SVGA_REG_CURSOR_ID, ID);
     write_register("CURSOR_X", SVGA_REG_CURSOR_X, 200);
     write_register("CURSOR_Y", SVGA_REG_CURSOR_Y, 120);
@@ -101,7 +116,8 @@ static void show_cursor(void) {
 
 // Appends a fence, as the guest does, and polls for it in the ring memory, while the host runs a few commands at a time.
 static void wait_for_all(uint32_t fence) {
-    append(SVGA_CMD_FENCE), append(fence);
+    const uint32_t command[] = {SVGA_CMD_FENCE, fence};
+    append(command, COUNT(command));
     while (ring[SVGA_FIFO_FENCE] != fence)
         if (run(16) == 0) give_up("fence that never passes", SVGA_ANSWER_WAITING);
     uint64_t passed = svga_fence_passed(device, SVGA_DEVICE_WORDS, fence); // what a host asks instead

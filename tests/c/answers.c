@@ -226,6 +226,81 @@ static void appending(void) {
     IS(svga_append(NULL, 0, 0), SVGA_APPEND_REFUSED);
 }
 
+// Appends a command of these words, with `pixel_count` pixels and `byte_count` bytes. A refused one has to leave the ring as it was.
+static uint32_t command(int line, const uint32_t *words, size_t count, size_t pixel_count, size_t byte_count) {
+    static const uint32_t pixels[4] = {0x80FFFFFFu, 1, 2, 3};
+    static const uint8_t data[5] = {1, 2, 3, 4, 255};
+    static uint32_t before[WORDS];
+    memcpy(before, ring, sizeof before);
+    uint32_t answer = svga_append_command(ring, WORDS, words, count, pixel_count ? pixels : NULL, pixel_count, byte_count ? data : NULL, byte_count);
+    if (svga_is_refusal(answer)) check(line, "a ring that is left as it was", memcmp(before, ring, sizeof before) == 0, 1);
+    return answer;
+}
+#define COMMAND(should, pixel_count, byte_count, ...)                                                            \
+    do {                                                                                                         \
+        const uint32_t words[] = {__VA_ARGS__};                                                                  \
+        uint32_t answer = command(__LINE__, words, sizeof words / sizeof words[0], pixel_count, byte_count);     \
+        check(__LINE__, "append_command", answer, should);                                                       \
+    } while (0)
+
+static void appending_commands(void) {
+    enum { MIN = SVGA_RING_START_MIN, MAX = MIN + SVGA_RING_BYTES_MIN, CARRIED = SVGA_RING_BYTES_MIN / 4 - 1 };
+    static uint8_t data[4 * (CARRIED - 3) + 1];
+    reset_ring(MIN, MAX - 12); // the second command goes over the ring's end
+    COMMAND(SVGA_ANSWER_TAKEN, 0, 0, SVGA_CMD_FENCE, 79);
+    COMMAND(SVGA_ANSWER_TAKEN, 0, 5, SVGA_CMD_ESCAPE, 7, 5);
+    COMMAND(SVGA_ANSWER_TAKEN, 4, 0, SVGA_CMD_DEFINE_ALPHA_CURSOR, 6, 1, 1, 2, 2);
+    COMMAND(SVGA_ANSWER_TAKEN, 0, 0, SVGA_CMD_UPDATE, 0, 0, 1, 1);
+    COMMAND(SVGA_ANSWER_TAKEN, 0, 0, SVGA_CMD_RECT_FILL, 9, 0, 0, 1, 1);
+    COMMAND(SVGA_ANSWER_TAKEN, 0, 0, SVGA_CMD_RECT_COPY, 0, 0, 1, 1, 1, 1);
+    COMMAND(SVGA_ANSWER_TAKEN, 0, 0, SVGA_CMD_RECT_ROP_FILL, 5, 0, 0, 1, 1, SVGA_ROP_SET);
+    COMMAND(SVGA_ANSWER_TAKEN, 0, 0, SVGA_CMD_RECT_ROP_COPY, 0, 0, 2, 1, 1, 1, SVGA_ROP_COPY);
+    COMMAND(SVGA_ANSWER_TAKEN, 0, 0, SVGA_CMD_UPDATE_VERBOSE, 0, 0, 1, 1, 5);
+    IS(ring[MAX / 4 - 3], SVGA_CMD_FENCE);
+    IS(ring[MAX / 4 - 2], 79);
+    IS(ring[MAX / 4 - 1], SVGA_CMD_ESCAPE);
+    IS(ring[MIN / 4], 7);
+    IS(ring[MIN / 4 + 2], 0x04030201);
+    IS(ring[MIN / 4 + 3], 255); // and zeros above it
+    IS(ring[SVGA_FIFO_NEXT_CMD], MIN + 4 * (4 + 10 + 5 + 6 + 7 + 7 + 8 + 6));
+    IS(ring[SVGA_FIFO_STOP], MAX - 12);
+    IS(put(SVGA_REG_CONFIG_DONE, 1), SVGA_ANSWER_TAKEN);
+    IS(run(99), both(SVGA_ANSWER_DRAINED, 9));
+    IS(svga_fence(device, SVGA_DEVICE_WORDS), both(SVGA_ANSWER_TAKEN, 79));
+    IS(cursor[0], 0x80FFFFFFu);
+    IS(cursor[3], 3);
+    IS(screen[WIDTH + 1], 9);
+    IS(screen[WIDTH + 2], UINT32_MAX);
+
+    // the longest command that fits, and the refusals then: of room, of lengths before it, of the command before these, of the ring before all
+    reset_ring(MIN, MIN + 400);
+    const uint32_t longest[] = {SVGA_CMD_ESCAPE, 0, 4 * (CARRIED - 3)}, longer[] = {SVGA_CMD_ESCAPE, 0, 4 * (CARRIED - 3) + 1};
+    IS(svga_append_command(ring, WORDS, longer, 3, NULL, 0, data, longer[2]), SVGA_ANSWER_NOT_A_COMMAND);
+    IS(svga_append_command(ring, WORDS, longer, 3, NULL, 0, NULL, 0), SVGA_ANSWER_NOT_A_COMMAND);
+    IS(svga_append_command(ring, WORDS, longest, 3, NULL, 0, data, longest[2]), SVGA_ANSWER_TAKEN);
+    IS(ring[SVGA_FIFO_NEXT_CMD], MIN + 396);
+    COMMAND(SVGA_ANSWER_NO_ROOM, 0, 0, SVGA_CMD_FENCE, 1);
+    COMMAND(SVGA_ANSWER_LENT_LENGTH, 1, 0, SVGA_CMD_FENCE, 1);
+    COMMAND(SVGA_ANSWER_LENT_LENGTH, 0, 1, SVGA_CMD_FENCE, 1);
+    COMMAND(SVGA_ANSWER_LENT_LENGTH, 0, 4, SVGA_CMD_ESCAPE, 0, 5);
+    COMMAND(SVGA_ANSWER_LENT_LENGTH, 3, 0, SVGA_CMD_DEFINE_ALPHA_CURSOR, 1, 0, 0, 2, 2);
+    COMMAND(SVGA_ANSWER_LENT_LENGTH, 4, 1, SVGA_CMD_DEFINE_ALPHA_CURSOR, 1, 0, 0, 2, 2);
+    COMMAND(SVGA_ANSWER_NOT_A_COMMAND, 1, 1, SVGA_CMD_FENCE);
+    COMMAND(SVGA_ANSWER_NOT_A_COMMAND, 1, 1, SVGA_CMD_FENCE, 1, 2);
+    COMMAND(SVGA_ANSWER_NOT_A_COMMAND, 1, 1, 20, 1);
+    COMMAND(SVGA_ANSWER_NOT_A_COMMAND, 1, 1, SVGA_CMD_RECT_ROP_FILL, 5, 0, 0, 1, 1, SVGA_ROP_SET + 1);
+    COMMAND(SVGA_ANSWER_NOT_A_COMMAND, 1, 1, SVGA_CMD_DEFINE_ALPHA_CURSOR, 1, 0, 0, SVGA_CURSOR_SIDE_MAX + 1, 1);
+    IS(svga_append_command(ring, WORDS, NULL, 0, NULL, 0, data, 1), SVGA_ANSWER_NOT_A_COMMAND);
+    ring[SVGA_FIFO_STOP] += 4; // as if a run had freed a word: one is still too few
+    COMMAND(SVGA_ANSWER_NO_ROOM, 0, 0, SVGA_CMD_FENCE, 1);
+    ring[SVGA_FIFO_STOP] += 4;
+    COMMAND(SVGA_ANSWER_TAKEN, 0, 0, SVGA_CMD_FENCE, 1);
+    ring[SVGA_FIFO_STOP] += 2;
+    COMMAND(SVGA_ANSWER_RING_REFUSED, 1, 1, 20, 1);
+    IS(svga_append_command(NULL, 0, NULL, 0, NULL, 0, NULL, 0), SVGA_ANSWER_RING_REFUSED);
+    IS(svga_append_command(ring, 3, longest, 3, NULL, 0, data, longest[2]), SVGA_ANSWER_RING_REFUSED);
+}
+
 int main(void) {
     making();
     registers();
@@ -235,6 +310,7 @@ int main(void) {
     faults();
     fences();
     appending();
+    appending_commands();
     printf("answers: %d checks, %d failed\n", checks, failures);
     return failures != 0;
 }

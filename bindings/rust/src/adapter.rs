@@ -144,7 +144,7 @@ impl Adapter {
         self.device.read(index)
     }
 
-    /// Appends one word to the ring: [`ring::append`].
+    /// Appends one word to the ring, whatever it is: [`ring::append`].
     ///
     /// # Errors
     ///
@@ -153,22 +153,22 @@ impl Adapter {
         ring::append(&mut self.ring, word)
     }
 
-    /// Appends a command's words. Where the ring is full, commands are run to make room, as a guest waits for it; the others wait for
-    /// the next run. The order of this work does not show: the screen is that of the commands one by one.
+    /// Appends a command, all its words or none: [`Command::append_to`]. Where the ring has no room for it, the commands that wait are run,
+    /// as a guest waits for it; else they wait for the next run. The order of this work does not show: the screen is that of the commands
+    /// one by one.
     ///
     /// # Errors
     ///
-    /// As [`Command::words`], with nothing appended. Where room has to be made: as [`Device::run`], and [`Error::FaultStands`] if that
-    /// run ended in a fault; a part of the words may then stand in the ring.
+    /// As [`Command::append_to`]; [`Error::NoRoom`] only where a run makes no room. Where room has to be made also as [`Device::run`], and
+    /// [`Error::FaultStands`] if that run ended in a fault. Nothing is appended.
     pub fn submit(&mut self, command: &Command<'_>) -> Result<(), Error> {
-        for word in command.words()? {
-            while let Err(full) = self.append(word) {
-                let run = self.run(u32::MAX)?;
-                match run.fault() {
-                    Some(fault) => return Err(Error::FaultStands(fault)),
-                    None if run.count == 0 => return Err(full),
-                    None => {}
-                }
+        while let Err(error) = command.append_to(&mut self.ring) {
+            let Error::NoRoom { .. } = error else { return Err(error) };
+            let run = self.run(u32::MAX)?;
+            match run.fault() {
+                Some(fault) => return Err(Error::FaultStands(fault)),
+                None if run.count == 0 => return Err(error),
+                None => {}
             }
         }
         Ok(())

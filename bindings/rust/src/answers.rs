@@ -1,6 +1,6 @@
 //! What the calls answer.
 
-use crate::{answer, limit, reg, register_name};
+use crate::{answer, command_name, limit, reg, register_name};
 use std::fmt;
 
 /// Where a run ended, and how many commands it consumed.
@@ -138,8 +138,10 @@ pub enum Memory {
     Cursor,
     /// The output of a picture.
     Output,
-    /// The pixels of a [`crate::Command::DefineAlphaCursor`].
-    CursorPixels,
+    /// The pixels lent with a command: `w · h` with a DEFINE_ALPHA_CURSOR, none with any other.
+    Pixels,
+    /// The data lent with a command, in bytes: `size` with an ESCAPE, none with any other.
+    Data,
 }
 
 impl fmt::Display for Memory {
@@ -151,8 +153,80 @@ impl fmt::Display for Memory {
             Memory::Screen => "screen",
             Memory::Cursor => "cursor image",
             Memory::Output => "output",
-            Memory::CursorPixels => "cursor command",
+            Memory::Pixels => "command's pixel memory",
+            Memory::Data => "command's data memory",
         })
+    }
+}
+
+/// Why [`crate::ring::append_command`] takes words for no command: a device with this ring would not execute them.
+#[derive(Clone, Copy, Debug, PartialEq, Eq, Hash)]
+#[non_exhaustive]
+pub enum Flaw {
+    /// There is no word, and so no number.
+    Empty,
+    /// There is no command of this number.
+    Number {
+        /// The number.
+        number: u32,
+    },
+    /// Another number of arguments than the command has.
+    Words {
+        /// The command's number.
+        number: u32,
+        /// The words given, the number among them.
+        given: usize,
+        /// The words that the command has.
+        wanted: usize,
+    },
+    /// A raster operation above 15.
+    Operation {
+        /// The command's number.
+        number: u32,
+        /// The operation.
+        rop: u32,
+    },
+    /// A cursor whose sides are not 1 to 64, or whose hotspot lies outside.
+    Cursor {
+        /// The columns.
+        w: u32,
+        /// The rows.
+        h: u32,
+        /// The hotspot's column.
+        hotx: u32,
+        /// The hotspot's row.
+        hoty: u32,
+    },
+    /// Longer than the ring can hold.
+    TooLong {
+        /// The command's number.
+        number: u32,
+        /// All its words.
+        words: u64,
+        /// The words that the ring can hold.
+        carries: usize,
+    },
+}
+
+impl fmt::Display for Flaw {
+    fn fmt(&self, f: &mut fmt::Formatter<'_>) -> fmt::Result {
+        match *self {
+            Flaw::Empty => f.write_str("a command without a word: the first is its number"),
+            Flaw::Number { number } => write!(f, "there is no command {number}"),
+            Flaw::Words { number, given, wanted } => {
+                write!(f, "{} has {wanted} words, its number among them, and {given} are given", Numbered(number))
+            }
+            Flaw::Operation { number, rop } => write!(f, "{} does not take raster operation {rop}: 0 to 15", Numbered(number)),
+            Flaw::Cursor { w, h, hotx, hoty } => {
+                write!(
+                    f,
+                    "a cursor of {w} by {h} with its hotspot at ({hotx}, {hoty}): both sides are 1 to 64, and the hotspot lies inside"
+                )
+            }
+            Flaw::TooLong { number, words, carries } => {
+                write!(f, "{} has {words} words, and the ring can hold {carries}", Numbered(number))
+            }
+        }
     }
 }
 
@@ -160,13 +234,13 @@ impl fmt::Display for Memory {
 #[derive(Clone, Copy, Debug, PartialEq, Eq, Hash)]
 #[non_exhaustive]
 pub enum Error {
-    /// 20: a lent memory has another length than the device was made for.
+    /// 20: a lent memory has another length than the device was made for, or than the appended command asks for.
     Length {
         /// Which memory.
         memory: Memory,
-        /// The words lent.
+        /// The words lent; bytes of [`Memory::Data`].
         lent: usize,
-        /// The words wanted.
+        /// The words wanted; bytes of [`Memory::Data`].
         wanted: usize,
     },
     /// 21: ENABLE is 0.
@@ -221,6 +295,15 @@ pub enum Error {
         /// The pixels.
         pixels: u32,
     },
+    /// 40: the ring could hold the command, but too few of its words are free now.
+    NoRoom {
+        /// The words of the command.
+        words: usize,
+        /// The words that are free.
+        free: usize,
+    },
+    /// 41: no command, or one at which a device with this ring would fault.
+    NotACommand(Flaw),
     /// Restored device words that no device can have: they were changed since they were saved, or are none.
     Malformed,
     /// A word was not appended: the ring is full, or its words 0 to 3 are unusable.
@@ -246,6 +329,8 @@ impl Error {
             Error::BadValue { .. } => answer::BAD_VALUE,
             Error::RingRefused { .. } => answer::RING_REFUSED,
             Error::BadSizes { .. } => answer::BAD_SIZES,
+            Error::NoRoom { .. } => answer::NO_ROOM,
+            Error::NotACommand(_) => answer::NOT_A_COMMAND,
             Error::Unknown { answer } => answer,
             Error::Malformed | Error::AppendRefused => return None,
         })
@@ -264,7 +349,10 @@ impl std::error::Error for Error {
 impl fmt::Display for Error {
     fn fmt(&self, f: &mut fmt::Formatter<'_>) -> fmt::Result {
         match *self {
-            Error::Length { memory, lent, wanted } => write!(f, "the {memory} has {lent} words and needs {wanted}"),
+            Error::Length { memory, lent, wanted } => {
+                let unit = if memory == Memory::Data { "bytes" } else { "words" };
+                write!(f, "the {memory} has {lent} {unit} and needs {wanted}")
+            }
             Error::Disabled => f.write_str("the device is disabled: ENABLE is 0"),
             Error::NotConfigured => f.write_str("the device has no ring: CONFIG_DONE is 0"),
             Error::FaultStands(fault) => write!(f, "fault {} stands until CONFIG_DONE 1 is accepted: {fault}", fault.number()),
@@ -285,10 +373,21 @@ impl fmt::Display for Error {
                 limit::PIXELS_MIN,
                 limit::PIXELS_MAX
             ),
+            Error::NoRoom { words, free } => write!(f, "the command has {words} words, and {free} of the ring's are free until a run frees more"),
+            Error::NotACommand(flaw) => write!(f, "{flaw}"),
             Error::Malformed => f.write_str("the words are not those of a device"),
             Error::AppendRefused => f.write_str("the word was not appended: the ring is full, or its words 0 to 3 are unusable"),
             Error::Unknown { answer } => write!(f, "answer {answer}, which this crate does not know: it and libsvga.a are of different versions"),
         }
+    }
+}
+
+/// A command as messages name it.
+struct Numbered(u32);
+
+impl fmt::Display for Numbered {
+    fn fmt(&self, f: &mut fmt::Formatter<'_>) -> fmt::Result {
+        write!(f, "command {} ({})", self.0, command_name(self.0).unwrap_or("unknown"))
     }
 }
 
@@ -318,7 +417,9 @@ fn range(index: u32) -> &'static str {
 /// The first thing wrong with a ring, for the message.
 fn flaw(min: u32, max: u32, next_cmd: u32, stop: u32, memory: u32) -> &'static str {
     let inside = |place| min <= place && place < max;
-    if [min, max, next_cmd, stop].iter().any(|place| place % 4 != 0) {
+    if memory < 16 {
+        "words 0 to 3 are not all there"
+    } else if [min, max, next_cmd, stop].iter().any(|place| place % 4 != 0) {
         "all four are multiples of 4"
     } else if min < limit::RING_START_MIN {
         "MIN is at least 16"

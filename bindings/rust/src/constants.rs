@@ -13,7 +13,7 @@ macro_rules! numbers {
     };
 }
 
-/// Functions, answers and the layout of the device words are those of this version of `svga.h`.
+/// Signatures and the layout of the device words are those of this version of `svga.h`.
 pub const ABI_VERSION: u32 = 1;
 /// The words of a device.
 pub const DEVICE_WORDS: usize = 64;
@@ -72,7 +72,7 @@ numbers! {
     TOO_LONG = 12;
     /// Run, fault: NEXT_CMD is no multiple of 4, or outside the ring.
     BAD_NEXT_CMD = 13;
-    /// A lent length is not the one that the device was made for.
+    /// A lent length is not the one that the device was made for; of an appended command's pixels or data, that the command has.
     LENT_LENGTH = 20;
     /// Run: ENABLE is 0.
     DISABLED = 21;
@@ -88,10 +88,14 @@ numbers! {
     READ_ONLY = 31;
     /// Write: the value is outside the register's range.
     BAD_VALUE = 32;
-    /// Write of CONFIG_DONE 1: ring words 0 to 3 are no usable ring.
+    /// Write of CONFIG_DONE 1, appending a command: ring words 0 to 3 are no usable ring.
     RING_REFUSED = 33;
     /// Making: the ring memory's bytes or the pixels are outside their limits.
     BAD_SIZES = 34;
+    /// Appending a command: the ring could hold it, but too few of its words are free now.
+    NO_ROOM = 40;
+    /// Appending a command: it is none, or one at which a device would fault.
+    NOT_A_COMMAND = 41;
 }
 
 numbers! {

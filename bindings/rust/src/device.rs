@@ -1,6 +1,6 @@
 //! A device, with its memories lent to each call.
 
-use crate::{answer, fifo, limit, reg, sys, End, Error, Fault, Memory, Run, CURSOR_WORDS, DEVICE_WORDS, EDGES_WORDS};
+use crate::{answer, limit, reg, ring, sys, End, Error, Fault, Memory, Run, CURSOR_WORDS, DEVICE_WORDS, EDGES_WORDS};
 use std::fmt;
 
 /// Places in the device words.
@@ -142,16 +142,7 @@ impl Device {
             answer::NO_REGISTER => Err(Error::NoRegister { index }),
             answer::READ_ONLY => Err(Error::ReadOnly { index }),
             answer::BAD_VALUE => Err(Error::BadValue { index, value }),
-            answer::RING_REFUSED => {
-                let word = |place: u32| ring.get(place as usize).copied().unwrap_or(0);
-                Err(Error::RingRefused {
-                    min: word(fifo::MIN),
-                    max: word(fifo::MAX),
-                    next_cmd: word(fifo::NEXT_CMD),
-                    stop: word(fifo::STOP),
-                    memory: self.memory(),
-                })
-            }
+            answer::RING_REFUSED => Err(ring::refused(ring, self.memory())),
             answer => Err(Error::Unknown { answer }),
         }
     }
@@ -171,8 +162,8 @@ impl Device {
     }
 
     /// Runs at most `budget` commands out of the ring. It changes the screen within the commands' rectangles, the cursor image where a
-    /// cursor is defined, and of the ring the word [`fifo::STOP`], and where the device [posts fences](Device::posts_fences) and a FENCE
-    /// is executed the word [`fifo::FENCE`].
+    /// cursor is defined, and of the ring the word [`crate::fifo::STOP`], and where the device [posts fences](Device::posts_fences) and a
+    /// FENCE is executed the word [`crate::fifo::FENCE`].
     ///
     /// A host that lends a copy of the ring writes back the word FENCE if the run changed it, which it does only where the device posts
     /// fences, and then the word STOP. Where it does not post them, the first is one of the ring's own, and the guest may have written it.

@@ -7,7 +7,7 @@
 //! - [`Device`] is the state alone, 64 words. Each call is lent the memories that it works on: for hypervisors, whose guest memory lies
 //!   elsewhere.
 //! - [`Adapter`] is a device with memories of its own.
-//! - [`Command`] builds the words that a guest appends.
+//! - [`Command`] is what a guest appends to the ring, all its words or none, by the library's own writer.
 //!
 //! A refused call is an [`Error`] and has changed nothing. A run that meets a bad command ends in a [`Fault`], which is a part of what it
 //! answers.
@@ -35,22 +35,20 @@
 //! With memories that lie elsewhere:
 //!
 //! ```
-//! use svga::{limit, reg, ring, Device, Lent, CURSOR_WORDS};
+//! use svga::{limit, reg, ring, Command, Device, Lent, Rect, CURSOR_WORDS};
 //!
 //! # fn main() -> Result<(), svga::Error> {
 //! let (mut guest_ring, guest_framebuffer) = (vec![0; 2_564], vec![0x00FF00; 1_024]);
 //! let (mut screen, mut cursor) = (vec![0; 1_024], vec![0; CURSOR_WORDS]);
 //! let mut device = Device::new(10_256, 1_024)?;
 //!
-//! // the guest's driver: registers by its ports, words by its memory
+//! // the guest's driver: registers by its ports, commands by its memory
 //! device.write(&[], reg::WIDTH, 32)?;
 //! device.write(&[], reg::HEIGHT, 32)?;
 //! device.write(&[], reg::ENABLE, 1)?;
 //! ring::reset(&mut guest_ring, limit::RING_START_MIN);
 //! device.write(&guest_ring, reg::CONFIG_DONE, 1)?;
-//! for word in [svga::cmd::UPDATE, 0, 0, 32, 32] {
-//!     ring::append(&mut guest_ring, word)?;
-//! }
+//! Command::Update(Rect::new(0, 0, 32, 32)).append_to(&mut guest_ring)?;
 //!
 //! // the host, whenever it likes
 //! let lent = Lent { ring: &mut guest_ring, framebuffer: &guest_framebuffer, screen: &mut screen, cursor: &mut cursor };
@@ -72,7 +70,7 @@ pub mod ring;
 pub mod sys;
 
 pub use adapter::{Adapter, Picture};
-pub use answers::{End, Error, Fault, Memory, Run};
+pub use answers::{End, Error, Fault, Flaw, Memory, Run};
 pub use command::{Command, Rect};
 pub use constants::*;
 pub use device::{Device, Edges, Lent};

@@ -1,4 +1,4 @@
-//! The library's nine functions over slices, and the one module with `unsafe`.
+//! The library's ten functions over slices, and the one module with `unsafe`.
 //!
 //! These are the C functions of `include/svga.h` with each pointer and length made a slice: any length and any content may be lent, and
 //! every call gives an answer from the table in that header ([`crate::answer`] has the names). [`crate::Device`] and [`crate::Adapter`]
@@ -39,6 +39,16 @@ mod raw {
         pub fn svga_fence(device: *const u32, device_len: usize) -> u64;
         pub fn svga_fence_passed(device: *const u32, device_len: usize, fence: u32) -> u64;
         pub fn svga_append(ring: *mut u32, ring_len: usize, word: u32) -> u32;
+        pub fn svga_append_command(
+            ring: *mut u32,
+            ring_len: usize,
+            command: *const u32,
+            command_len: usize,
+            pixels: *const u32,
+            pixels_len: usize,
+            data: *const u8,
+            data_len: usize,
+        ) -> u32;
     }
 }
 
@@ -132,4 +142,22 @@ pub fn fence_passed(device: &[u32], fence: u32) -> u64 {
 pub fn append(ring: &mut [u32], word: u32) -> u32 {
     // SAFETY: see above.
     unsafe { raw::svga_append(ring.as_mut_ptr(), ring.len(), word) }
+}
+
+/// Appends a command to the ring, as a guest does, all its words or none: 0, 20, 33, 40 or 41. `command` is its number and its arguments.
+#[must_use]
+pub fn append_command(ring: &mut [u32], command: &[u32], pixels: &[u32], data: &[u8]) -> u32 {
+    // SAFETY: see above.
+    unsafe {
+        raw::svga_append_command(
+            ring.as_mut_ptr(),
+            ring.len(),
+            command.as_ptr(),
+            command.len(),
+            pixels.as_ptr(),
+            pixels.len(),
+            data.as_ptr(),
+            data.len(),
+        )
+    }
 }

@@ -3,7 +3,7 @@
 mod common;
 use common::{append_all, fill, started, MEMORY, PIXELS};
 use svga::{cap, cmd, cursor_on, fifo, id, limit, reg, ring, rop};
-use svga::{Adapter, Command, Device, Edges, End, Error, Fault, Lent, Memory, Rect, Run, CURSOR_WORDS};
+use svga::{Adapter, Command, Device, Edges, End, Error, Fault, Flaw, Lent, Memory, Rect, Run, CURSOR_WORDS};
 
 fn run_of(end: End, count: u32) -> Result<Run, Error> {
     Ok(Run { end, count })
@@ -317,23 +317,138 @@ fn every_raster_operation_follows_the_bit_rule() {
     }
 }
 
+// ---- commands appended whole
+
+/// The smallest ring, empty at byte `place`.
+fn empty_at(place: u32) -> Vec<u32> {
+    let mut memory = vec![0; 2_564];
+    ring::reset(&mut memory, limit::RING_START_MIN);
+    memory[fifo::NEXT_CMD as usize] = place;
+    memory[fifo::STOP as usize] = place;
+    memory
+}
+
+/// The words that wait in the smallest ring.
+fn waiting(memory: &[u32]) -> Vec<u32> {
+    let place = |word: u32| (memory[word as usize] / 4) as usize;
+    let behind = (place(fifo::STOP)..2_564).chain(4..).take_while(|&at| at != place(fifo::NEXT_CMD));
+    behind.map(|at| memory[at]).collect()
+}
+
 #[test]
 fn the_words_of_commands() {
     let area = Rect::new(1, 2, 3, 4);
-    let words = |command: Command<'_>| command.words().unwrap();
-    assert_eq!(words(Command::Update(area)), [1, 1, 2, 3, 4]);
-    assert_eq!(words(Command::RectFill { colour: 9, to: area }), [2, 9, 1, 2, 3, 4]);
-    assert_eq!(words(Command::RectCopy { sx: 7, sy: 8, to: area }), [3, 7, 8, 1, 2, 3, 4]);
-    assert_eq!(words(Command::RectRopFill { colour: 9, to: area, rop: 6 }), [13, 9, 1, 2, 3, 4, 6]);
-    assert_eq!(words(Command::RectRopCopy { sx: 7, sy: 8, to: area, rop: 6 }), [14, 7, 8, 1, 2, 3, 4, 6]);
-    assert_eq!(words(Command::UpdateVerbose { area, reason: 5 }), [25, 1, 2, 3, 4, 5]);
-    assert_eq!(words(Command::Fence(6)), [30, 6]);
-    assert_eq!(words(Command::Escape { namespace: 7, data: &[] }), [33, 7, 0]);
-    assert_eq!(words(Command::Escape { namespace: 7, data: &[1, 2, 3, 4, 5] }), [33, 7, 5, 0x0403_0201, 5]);
-    let cursor = Command::DefineAlphaCursor { id: 1, hotx: 2, hoty: 0, w: 3, h: 1, pixels: &[4, 5, 6] };
-    assert_eq!(words(cursor), [22, 1, 2, 0, 3, 1, 4, 5, 6]);
+    for (command, words) in [
+        (Command::Update(area), &[1, 1, 2, 3, 4][..]),
+        (Command::RectFill { colour: 9, to: area }, &[2, 9, 1, 2, 3, 4]),
+        (Command::RectCopy { sx: 7, sy: 8, to: area }, &[3, 7, 8, 1, 2, 3, 4]),
+        (Command::RectRopFill { colour: 9, to: area, rop: 6 }, &[13, 9, 1, 2, 3, 4, 6]),
+        (Command::RectRopCopy { sx: 7, sy: 8, to: area, rop: 6 }, &[14, 7, 8, 1, 2, 3, 4, 6]),
+        (Command::DefineAlphaCursor { id: 1, hotx: 2, hoty: 0, w: 3, h: 1, pixels: &[4, 5, 6] }, &[22, 1, 2, 0, 3, 1, 4, 5, 6]),
+        (Command::UpdateVerbose { area, reason: 5 }, &[25, 1, 2, 3, 4, 5]),
+        (Command::Fence(6), &[30, 6]),
+        (Command::Escape { namespace: 7, data: &[] }, &[33, 7, 0]),
+        (Command::Escape { namespace: 7, data: &[1, 2, 3, 4] }, &[33, 7, 4, 0x0403_0201]),
+        (Command::Escape { namespace: 7, data: &[1, 2, 3, 4, 255] }, &[33, 7, 5, 0x0403_0201, 255]),
+    ] {
+        assert_eq!(command.unchecked_words(), words);
+        // in a row of words, up to the ring's end, and over it at every word
+        for place in [16, 10_256 - 4 * words.len() as u32].into_iter().chain((1..words.len() as u32).map(|n| 10_256 - 4 * n)) {
+            let mut memory = empty_at(place);
+            assert_eq!(command.append_to(&mut memory), Ok(()));
+            assert_eq!(waiting(&memory), words, "{command:?} at {place}");
+            let (min, stop) = (memory[fifo::MIN as usize], memory[fifo::STOP as usize]);
+            assert_eq!((min, memory[fifo::MAX as usize], stop), (16, 10_256, place));
+        }
+    }
     let short = Command::DefineAlphaCursor { id: 1, hotx: 0, hoty: 0, w: 2, h: 2, pixels: &[4, 5, 6] };
-    assert_eq!(short.words(), Err(Error::Length { memory: Memory::CursorPixels, lent: 3, wanted: 4 }));
+    assert_eq!(short.unchecked_words(), [22, 1, 0, 0, 2, 2, 4, 5, 6], "as it is");
+    assert_eq!(short.append_to(&mut empty_at(16)), Err(Error::Length { memory: Memory::Pixels, lent: 3, wanted: 4 }));
+}
+
+#[test]
+fn refusals_of_a_command_come_in_order() {
+    let refused = |memory: &mut Vec<u32>, head: &[u32], pixels: &[u32], data: &[u8]| {
+        let before = memory.clone();
+        let error = ring::append_command(memory, head, pixels, data).unwrap_err();
+        assert_eq!(*memory, before, "a refused command changes nothing");
+        error
+    };
+    let length = |memory, lent, wanted| Error::Length { memory, lent, wanted };
+    // the ring, before all else
+    let mut spoilt = empty_at(16);
+    spoilt[fifo::STOP as usize] = 18;
+    assert_eq!(refused(&mut spoilt, &[], &[1], &[]), Error::RingRefused { min: 16, max: 10_256, next_cmd: 16, stop: 18, memory: MEMORY });
+    let missing = Error::RingRefused { min: 16, max: 16, next_cmd: 16, stop: 0, memory: 12 };
+    assert_eq!(refused(&mut vec![16; 3], &[cmd::FENCE, 1], &[], &[]), missing);
+    // the command, whatever is lent with it and however full the ring is
+    let mut full = empty_at(16);
+    full[fifo::NEXT_CMD as usize] = 10_252;
+    let too_long = |number, words| Flaw::TooLong { number, words, carries: 2_559 };
+    for (head, flaw) in [
+        (&[][..], Flaw::Empty),
+        (&[0], Flaw::Number { number: 0 }),
+        (&[cmd::FENCE], Flaw::Words { number: cmd::FENCE, given: 1, wanted: 2 }),
+        (&[cmd::FENCE, 1, 2], Flaw::Words { number: cmd::FENCE, given: 3, wanted: 2 }),
+        (&[cmd::RECT_ROP_FILL, 1, 0, 0, 1, 1, 16], Flaw::Operation { number: cmd::RECT_ROP_FILL, rop: 16 }),
+        (&[cmd::RECT_ROP_COPY, 0, 0, 0, 0, 1, 1, u32::MAX], Flaw::Operation { number: cmd::RECT_ROP_COPY, rop: u32::MAX }),
+        (&[cmd::DEFINE_ALPHA_CURSOR, 1, 0, 0, 65, 1], Flaw::Cursor { w: 65, h: 1, hotx: 0, hoty: 0 }),
+        (&[cmd::DEFINE_ALPHA_CURSOR, 1, 2, 0, 2, 2], Flaw::Cursor { w: 2, h: 2, hotx: 2, hoty: 0 }),
+        (&[cmd::DEFINE_ALPHA_CURSOR, 1, 0, 0, 51, 51], too_long(cmd::DEFINE_ALPHA_CURSOR, 2_607)),
+        (&[cmd::ESCAPE, 0, 10_225], too_long(cmd::ESCAPE, 2_560)),
+        (&[cmd::ESCAPE, 0, u32::MAX], too_long(cmd::ESCAPE, 1_073_741_827)),
+    ] {
+        assert_eq!(refused(&mut full, head, &[1], &[2]), Error::NotACommand(flaw), "{head:?}");
+    }
+    // lengths, before room
+    assert_eq!(refused(&mut full, &[cmd::FENCE, 1], &[1], &[]), length(Memory::Pixels, 1, 0));
+    assert_eq!(refused(&mut full, &[cmd::FENCE, 1], &[], &[1]), length(Memory::Data, 1, 0));
+    assert_eq!(refused(&mut full, &[cmd::ESCAPE, 0, 5], &[], &[1; 4]), length(Memory::Data, 4, 5));
+    assert_eq!(refused(&mut full, &[cmd::ESCAPE, 0, 5], &[1], &[1; 5]), length(Memory::Pixels, 1, 0));
+    assert_eq!(refused(&mut full, &[cmd::DEFINE_ALPHA_CURSOR, 1, 0, 0, 2, 2], &[1; 4], &[1]), length(Memory::Data, 1, 0));
+    // room: none, and one word too little; on either side of the ring's end
+    assert_eq!(refused(&mut full, &[cmd::FENCE, 1], &[], &[]), Error::NoRoom { words: 2, free: 0 });
+    full[fifo::STOP as usize] = 20;
+    assert_eq!(refused(&mut full, &[cmd::ESCAPE, 0, 1], &[], &[1]), Error::NoRoom { words: 4, free: 1 });
+    full[fifo::NEXT_CMD as usize] = 16;
+    full[fifo::STOP as usize] = 24;
+    assert_eq!(refused(&mut full, &[cmd::FENCE, 1], &[], &[]), Error::NoRoom { words: 2, free: 1 });
+    full[fifo::STOP as usize] = 28;
+    assert_eq!(ring::append_command(&mut full, &[cmd::FENCE, 1], &[], &[]), Ok(()));
+    assert_eq!(full[..6], [16, 10_256, 24, 28, cmd::FENCE, 1]);
+}
+
+#[test]
+fn the_longest_command_fits_an_empty_ring() {
+    let data: Vec<u8> = (0..10_224).map(|byte| byte as u8).collect();
+    let longest = Command::Escape { namespace: 1, data: &data };
+    for place in [16, 20, 5_000, 10_252] {
+        let mut memory = empty_at(place);
+        assert_eq!(longest.append_to(&mut memory), Ok(()));
+        assert_eq!(waiting(&memory), longest.unchecked_words());
+        assert_eq!(Command::Fence(1).append_to(&mut memory), Err(Error::NoRoom { words: 2, free: 0 }));
+    }
+    let mut adapter = started();
+    adapter.submit(&longest).unwrap();
+    assert_eq!(adapter.submit(&longest), Ok(()), "a run makes room for all of it");
+    assert_eq!(adapter.run(9), run_of(End::Drained, 1));
+}
+
+#[test]
+fn words_that_a_run_has_freed_are_used_again() {
+    let mut adapter = started();
+    let (mut appended, mut executed) = (0, 0);
+    for turn in 0..3_000 {
+        // more than fits: some are refused, and what is refused is not executed
+        for _ in 0..turn % 400 {
+            appended += u32::from(Command::Fence(appended + 1).append_to(adapter.ring_mut()).is_ok());
+        }
+        executed += adapter.run(turn % 300).unwrap().count;
+        assert_eq!(adapter.fence(), executed, "in order");
+    }
+    executed += adapter.run(u32::MAX).unwrap().count;
+    assert!(appended > 100_000, "{appended}");
+    assert_eq!((executed, adapter.fence()), (appended, appended));
 }
 
 #[test]
@@ -347,11 +462,21 @@ fn submit_runs_where_the_ring_is_full() {
 
     let pixels = vec![0; 51 * 51];
     let too_long = Command::DefineAlphaCursor { id: 0, hotx: 0, hoty: 0, w: 51, h: 51, pixels: &pixels };
-    assert_eq!(adapter.submit(&too_long), Err(Error::FaultStands(Fault::TooLong)), "it never just waits");
+    let flaw = Flaw::TooLong { number: cmd::DEFINE_ALPHA_CURSOR, words: 2_607, carries: 2_559 };
+    assert_eq!(adapter.submit(&too_long), Err(Error::NotACommand(flaw)), "it never just waits");
+    assert_eq!(adapter.run(1), run_of(End::Drained, 0), "nothing of it was appended");
+    append_all(&mut adapter, &too_long.unchecked_words()[..2_559]);
+    assert_eq!(adapter.submit(&Command::Fence(1)), Err(Error::FaultStands(Fault::TooLong)), "the run that makes room meets it");
 
     let mut adapter = started();
     adapter.ring_mut()[fifo::MIN as usize] = 2; // the guest's own append reads it
-    assert_eq!(adapter.submit(&Command::Fence(1)), Err(Error::AppendRefused));
+    let refused = Error::RingRefused { min: 2, max: MEMORY, next_cmd: 16, stop: 16, memory: MEMORY };
+    assert_eq!(adapter.submit(&Command::Fence(1)), Err(refused));
+
+    let mut adapter = started();
+    append_all(&mut adapter, &[cmd::ESCAPE, 0, 10_224]);
+    append_all(&mut adapter, &[0; 2_555]); // one word of the escape is missing: no run makes room
+    assert_eq!(adapter.submit(&Command::Fence(1)), Err(Error::NoRoom { words: 2, free: 1 }));
 }
 
 #[test]

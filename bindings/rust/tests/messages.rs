@@ -1,7 +1,7 @@
 //! What the answers say, and their numbers.
 
 use std::error::Error as _;
-use svga::{fifo, limit, reg, ring, Device, End, Error, Fault, Memory, Run};
+use svga::{cmd, fifo, limit, reg, ring, Device, End, Error, Fault, Flaw, Memory, Run};
 
 #[test]
 fn runs() {
@@ -23,6 +23,8 @@ fn refusals() {
     for (error, number, said) in [
         (Error::Length { memory: Memory::Screen, lent: 9, wanted: 1_024 }, Some(20), "the screen has 9 words and needs 1024"),
         (Error::Length { memory: Memory::Cursor, lent: 0, wanted: 4_096 }, Some(20), "the cursor image has 0 words and needs 4096"),
+        (Error::Length { memory: Memory::Pixels, lent: 3, wanted: 4 }, Some(20), "the command's pixel memory has 3 words and needs 4"),
+        (Error::Length { memory: Memory::Data, lent: 3, wanted: 0 }, Some(20), "the command's data memory has 3 bytes and needs 0"),
         (Error::Disabled, Some(21), "the device is disabled: ENABLE is 0"),
         (Error::NotConfigured, Some(22), "the device has no ring: CONFIG_DONE is 0"),
         (
@@ -39,6 +41,12 @@ fn refusals() {
             Some(34),
             "no device has a ring memory of 1 bytes and 2 pixels: the memory is a multiple of 4 from 10256 to 2097152, the pixels are 1 to 4096000",
         ),
+        (
+            Error::NoRoom { words: 6, free: 3 },
+            Some(40),
+            "the command has 6 words, and 3 of the ring's are free until a run frees more",
+        ),
+        (Error::NotACommand(Flaw::Number { number: 20 }), Some(41), "there is no command 20"),
         (Error::Malformed, None, "the words are not those of a device"),
         (Error::AppendRefused, None, "the word was not appended: the ring is full, or its words 0 to 3 are unusable"),
     ] {
@@ -46,6 +54,28 @@ fn refusals() {
     }
     assert_eq!(Error::FaultStands(Fault::NotOffered).source().unwrap().to_string(), Fault::NotOffered.to_string());
     assert!(Error::Disabled.source().is_none());
+}
+
+#[test]
+fn a_refused_command_says_what_is_wrong() {
+    let mut memory = vec![0; 2_564];
+    ring::reset(&mut memory, limit::RING_START_MIN);
+    for (head, said) in [
+        (&[][..], "a command without a word: the first is its number"),
+        (&[20, 1], "there is no command 20"),
+        (&[cmd::RECT_FILL, 9, 0, 0, 1], "command 2 (RECT_FILL) has 6 words, its number among them, and 5 are given"),
+        (&[cmd::RECT_ROP_FILL, 9, 0, 0, 1, 1, 16], "command 13 (RECT_ROP_FILL) does not take raster operation 16: 0 to 15"),
+        (
+            &[cmd::DEFINE_ALPHA_CURSOR, 1, 0, 3, 65, 3],
+            "a cursor of 65 by 3 with its hotspot at (0, 3): both sides are 1 to 64, and the hotspot lies inside",
+        ),
+        (&[cmd::ESCAPE, 0, 10_225], "command 33 (ESCAPE) has 2560 words, and the ring can hold 2559"),
+    ] {
+        let error = ring::append_command(&mut memory, head, &[], &[]).unwrap_err();
+        assert_eq!((error.number(), error.to_string().as_str()), (Some(41), said));
+    }
+    let missing = ring::append_command(&mut memory[..3], &[cmd::FENCE, 1], &[], &[]).unwrap_err();
+    assert!(missing.to_string().ends_with("is unusable: words 0 to 3 are not all there"), "{missing}");
 }
 
 #[test]

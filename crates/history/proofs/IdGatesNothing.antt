@@ -34,7 +34,8 @@ use Rattle.device_run.specs.Run.{Lent, RunOutcome, lentGood, refusedRun, runBy,
 use Rattle.adapter.specs.declared.Edges.{Edges}
 use Rattle.adapter.specs.Picture.{Pictured, cursorOver, pictureOf}
 use Rattle.adapter.specs.Offscreen.{offscreenOf}
-use Rattle.history.specs.Calls.{World, Call, make, write, read, run, append, picture, offscreen, fence, passed, lend, withDevice, perform, performAll}
+use Rattle.history.specs.Calls.{World, Call, make, write, read, run, append, submit, picture, offscreen, fence, passed, lend}
+use Rattle.history.specs.Calls.{withDevice, perform, performAll}
 use Rattle.history.specs.OtherId.{withId, SameButId, SameOutcome, NotTheId, NeverTheId, SameHistory}
 
 -- what holds of the choices of a test on both sides holds of what is chosen
@@ -192,6 +193,7 @@ call-other (run budget) w id t =
     let s = run-other (w .device) id (w .lent) budget in
     record { answer = s .answer; values = ap (λ (n : ℕ). n ∷ []) (s .count); world = record { device = s .device; lent = s .lent; output = refl } }
 call-other (append word) w id t = record { answer = refl; values = refl; world = record { device = refl; lent = refl; output = refl } }
+call-other (submit c) w id t = record { answer = refl; values = refl; world = record { device = refl; lent = refl; output = refl } }
 call-other picture w id t =
     let e = picture-other (w .device) id (w .lent .screen) (w .lent .cursor) (w .output) in
     record {

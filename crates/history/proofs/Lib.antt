@@ -6,6 +6,7 @@ pub mod Laws
 pub mod StartTest
 pub mod Walks
 pub mod Starts
+pub mod Submitting
 pub mod NoHarm
 pub mod Refuted
 pub mod IdGatesNothing

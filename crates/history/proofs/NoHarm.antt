@@ -14,8 +14,14 @@ use Rattle.execution.specs.declared.End.the-variants.{Drained, Waiting, Fault}
 use Rattle.execution.specs.declared.Cause.the-variants.{NotOffered, BadOperand, TooLong, BadNext}
 use Rattle.execution.specs.Claim.{Answer, spent, standing, ended, answerNumber}
 use Rattle.ring.specs.declared.Ring.{Ring}
-use Rattle.ring.specs.Append.{canAppend, appendOf}
-use Rattle.ring.proofs.AppendLaws.{length-append-to, append-elsewhere}
+use Rattle.ring.specs.Acceptance.{Usable}
+use Rattle.ring.specs.Append.{canAppend, appendTo, appendOf}
+use Rattle.ring.proofs.AppendLaws.{append-refused, append-usable}
+use Rattle.writer.specs.declared.WriterAnswer.{WriterAnswer}
+use Rattle.writer.specs.declared.WriterAnswer.the-variants.{Taken, LentLength, RingRefused, NoRoom, NotACommand}
+use Rattle.writer.specs.Writing.{Command, commandWords, freeWords, appendAll, Written, writerNumber, writeOf}
+use Rattle.writer.proofs.RoomLaws.{room}
+use Rattle.writer.proofs.Appending.{length-append-all, append-all-elsewhere, by-write, write-answers as writer-answers}
 use Rattle.register.specs.declared.Register.{Register}
 use Rattle.register.specs.declared.Register.the-variants.{Writes, Reads, Absent}
 use Rattle.register.specs.declared.Writable.the-variants.{Enable, ConfigDone, Sync, CursorOn}
@@ -41,8 +47,9 @@ use Rattle.register_write.specs.Rules.{Why, no-register, read-only, bad-value, 
 use Rattle.register_write.proofs.Refusals.{why, ill-formed-write}
 use Rattle.history.proofs.KeptByRun.{NotStanding, Refusal, lent-length, disabled, not-configured, fault-stands, too-large, Open, ranIn, by-run}
 use Rattle.history.proofs.KeptByRun.{left-sound, left-stays, open-sound, refused-run, run-count, run-nothing, run-filled, run-tells, beyond-rows}
-use Rattle.history.specs.Calls.{World, Call, make, write, read, run, append, picture, offscreen, fence, passed, lend, perform, performAll}
-use Rattle.history.specs.Harm.{row, among, SameBut, InMode, WriteChanges, ConditionChanges, RunChanges, AppendChanges, PictureChanges, OnlyNamed, Safe, Harmless}
+use Rattle.history.specs.Calls.{World, Call, make, write, read, run, append, submit, picture, offscreen, fence, passed, lend, perform, performAll}
+use Rattle.history.specs.Harm.{row, among, SameBut, InMode, WriteChanges, ConditionChanges, RunChanges, FromNext, AppendChanges, PictureChanges}
+use Rattle.history.specs.Harm.{OnlyNamed, Safe, Harmless}
 use Rattle.history.proofs.Starts.{writes-number, not-one, condition-kept, refused-stays}
 
 -- ---- answers
@@ -110,6 +117,17 @@ append-answers : (word : ℕ) (w : World) → among (perform (append word) w .an
 unfolding perform appendOf
 append-answers word w = cases (canAppend (w .lent .ring)) (λ t. rw t) (λ f. rw f)
 
+writer-row : (c : Command) (a : WriterAnswer) → among (writerNumber a) (row (submit c)) ≡ true
+writer-row c Taken = refl
+writer-row c LentLength = refl
+writer-row c RingRefused = refl
+writer-row c NoRoom = refl
+writer-row c NotACommand = refl
+
+submit-answers : (c : Command) (w : World) → among (perform (submit c) w .answer) (row (submit c)) ≡ true
+unfolding perform
+submit-answers c w = let a = writer-answers (w .lent .ring) c in rw (a .1) (writer-row c (a .0))
+
 picture-answers : (w : World) → among (perform picture w .answer) (row picture) ≡ true
 unfolding perform pictureOf
 picture-answers w =
@@ -167,6 +185,27 @@ unfolding busyAfter
 busy-moves spent b = inl refl
 busy-moves standing b = inl refl
 busy-moves (ended e) b = inr refl
+
+-- words that are appended where there is room for them: ring word 2, and as many from NEXT_CMD on
+appended : (ring words : List ℕ) → Usable ring → length words ≤ freeWords ring
+    → SameBut (λ i. (i ≡ 2) ⊎ FromNext ring (length words) i) ring (appendAll ring words)
+appended ring words u l = record {
+  same-length = length-append-all ring words;
+  elsewhere = λ i h. append-all-elsewhere ring words u l i (λ e. h (inl e)) (λ k b e. h (inr (k, b, e)));
+}
+
+append-ring : (ring : List ℕ) (word : ℕ) → SameBut (λ i. (i ≡ 2) ⊎ FromNext ring 1 i) ring (appendTo ring word)
+unfolding appendAll
+append-ring ring word =
+    cases (canAppend ring)
+    (λ t. let u = append-usable ring t in appended ring (word ∷ []) u (room ring u .1 t))
+    (λ f. rw (append-refused ring word f) (all-same ring))
+
+submit-ring : (ring : List ℕ) (c : Command) → SameBut (λ i. (i ≡ 2) ⊎ FromNext ring (length (commandWords c)) i) ring (writeOf ring c .ring)
+submit-ring ring c =
+    by-write ring c (λ (o : Written). SameBut (λ i. (i ≡ 2) ⊎ FromNext ring (length (commandWords c)) i) ring (o .ring))
+    (λ a high. all-same ring)
+    (λ f. appended ring (commandWords c) (f .usable) (f .room))
 
 -- not below is at least
 not-below : (i n : ℕ) → (i < n → ⊥) → n ≤ i
@@ -235,14 +274,13 @@ module _ (w : World) where
       (λ a r. refused-run-changes a)
       (ran-changes budget)
 
-  append-changes : (word : ℕ) → AppendChanges w (perform (append word) w .world)
+  append-changes : (word : ℕ) → AppendChanges 1 w (perform (append word) w .world)
   unfolding perform appendOf
-  append-changes word = record {
-    ring = record { same-length = length-append-to (m .ring) word; elsewhere = λ i h. append-elsewhere (m .ring) word i (λ e. h (inl e)) (λ e. h (inr e)) };
-    device = refl;
-    others = refl;
-    output = refl;
-  }
+  append-changes word = record { ring = append-ring (m .ring) word; device = refl; others = refl; output = refl }
+
+  submit-changes : (c : Command) → AppendChanges (length (commandWords c)) w (perform (submit c) w .world)
+  unfolding perform
+  submit-changes c = record { ring = submit-ring (m .ring) c; device = refl; others = refl; output = refl }
 
   composed-changes : (over : Overlay) → wellFormed d ≡ true → SameBut (InMode w) (w .output) (composed (widthOf d) (heightOf d) over (m .screen) (m .cursor) (w .output))
   composed-changes over y =
@@ -282,6 +320,7 @@ call-answers (write index value) w = write-answers index value w
 call-answers (read index) w = read-answers index w
 call-answers (run budget) w = run-answers budget w
 call-answers (append word) w = append-answers word w
+call-answers (submit c) w = submit-answers c w
 call-answers picture w = picture-answers w
 call-answers offscreen w = refl
 call-answers fence w = refl
@@ -299,6 +338,7 @@ call-changes (write index value) w = write-changes index value w
 call-changes (read index) w = refl
 call-changes (run budget) w = run-changes w budget
 call-changes (append word) w = append-changes w word
+call-changes (submit c) w = submit-changes w c
 call-changes picture w = picture-changes w
 call-changes offscreen w = refl
 call-changes fence w = refl
@@ -329,6 +369,7 @@ call-silent (run budget) w h i =
     let q = refused-run (w .device) m budget h in
     one-zero (runOf (w .device) m budget .count) i (ap (λ (o : RunOutcome). o .count) q)
 call-silent (append word) w h i = refl
+call-silent (submit c) w h i = refl
 call-silent picture w h i = refl
 call-silent offscreen w h i = absurd (omega arith)
 call-silent fence w h i = absurd (omega arith)

@@ -4,14 +4,17 @@ use mathlib.Core.Path.{_≡_, refl, ap}
 use mathlib.Core.Bool.{true, false, true≢false}
 use mathlib.Core.List.{List, [], _∷_}
 use mathlib.Core.Logic.{⊎-elim}
-use Prim.Native.Nat.{ℕ}
+use Prim.Native.Nat.{ℕ, _+_, _≤_, _<_}
 use native.Mathlib.Omega.{arith}
 use lib.ListN.{getD, set}
+use borrow.Author.Tests.{lt-ltb}
+use Rattle.geometry.specs.Pixels.{tabulate}
 use Rattle.execution.specs.declared.Cause.the-variants.{NotOffered}
 use Rattle.execution.specs.Straight.{straight}
 use Rattle.execution.specs.Table.{unless, turnOf}
 use Rattle.ring.specs.declared.Ring.{Ring}
-use Rattle.ring.specs.Waiting.{after, between, words, waiting}
+use Rattle.ring.specs.Waiting.{after, ahead, between, words, waiting}
+use Rattle.writer.specs.Writing.{command, commandWords, dataWords}
 use Rattle.register.specs.declared.Writable.the-variants.{Width}
 use Rattle.register.specs.Numbers.{numbers, registerOf}
 use Rattle.cursor.specs.Plane.{shapeGood}
@@ -27,8 +30,8 @@ use Rattle.device.specs.Device.{freshRegisters, fresh, withRegisters, withPlane
 use Rattle.register_read.specs.Registers.{writableValue}
 use Rattle.register_write.specs.Registers.{setMode}
 use Rattle.device_run.specs.Run.{Lent, lent, withRing, withFramebuffer, lineOf, turnFor}
-use Rattle.history.specs.Calls.{World, make, read, withDevice}
-use Rattle.history.specs.Harm.{among, SameBut, WriteChanges, RunChanges, AppendChanges, PictureChanges, OnlyNamed, largestCursor}
+use Rattle.history.specs.Calls.{World, make, read, submit, withDevice}
+use Rattle.history.specs.Harm.{among, SameBut, WriteChanges, RunChanges, FromNext, AppendChanges, PictureChanges, OnlyNamed, largestCursor}
 
 -- ---- a world: mode 1 by 1, and a ring in which the command of a cursor of 1 by 1 waits
 
@@ -36,7 +39,7 @@ abbrev place : Ring
 place = record { min = 4; max = 24; stop = 4 }
 
 abbrev ringWords : List ℕ
-ringWords = 16 ∷ 96 ∷ 44 ∷ 16 ∷ 22 ∷ 7 ∷ 0 ∷ 0 ∷ 1 ∷ 1 ∷ 255 ∷ 0 ∷ []
+ringWords = 16 ∷ 96 ∷ 44 ∷ 16 ∷ 22 ∷ 7 ∷ 0 ∷ 0 ∷ 1 ∷ 1 ∷ 255 ∷ 0 ∷ 0 ∷ 0 ∷ []
 
 abbrev two : List ℕ
 two = 0 ∷ 0 ∷ []
@@ -193,13 +196,26 @@ nothing-posts a h = let z : _≡_ {A = ℕ} 9 0 = ap (λ (l : Lent). getD (l .ri
 
 -- ---- the other calls
 
--- an append writes ring word 4, where NEXT_CMD is not
-pub append-overwrites : AppendChanges before (lending (withRing memories (set ringWords 4 0))) → ⊥
-append-overwrites h = let z : _≡_ {A = ℕ} 0 22 = h .ring .elsewhere 4 (⊎-elim (λ e. omega arith) (λ e. omega arith)) in omega arith
+-- NEXT_CMD is at ring word 11, and the ring goes on for thirteen words from there
+from-next : (n i : ℕ) → n ≤ 13 → FromNext ringWords n i → (11 ≤ i) × (i < 11 + n)
+unfolding ahead
+from-next n i few f = let k = f .0 in let at : i ≡ 11 + k = rw (lt-ltb (11 + k) 24 (omega arith)) at (f .2) in omega arith
 
--- an append paints
-pub append-paints : AppendChanges before (lending (lent ringWords two (9 ∷ 0 ∷ []) two)) → ⊥
-append-paints h = let z : _≡_ {A = ℕ} 9 0 = ap (λ (l : Lent). getD (l .screen) 0 0) (h .others) in omega arith
+-- an append writes ring word 4, where NEXT_CMD is not
+pub append-overwrites : AppendChanges 1 before (lending (withRing memories (set ringWords 4 0))) → ⊥
+append-overwrites h =
+    let z : _≡_ {A = ℕ} 0 22 = h .ring .elsewhere 4 (⊎-elim (λ e. omega arith) (λ f. omega (arith, from-next 1 4 (omega arith) f))) in omega arith
+
+-- an append, or a write of a command, paints
+pub append-paints : (n : ℕ) → AppendChanges n before (lending (lent ringWords two (9 ∷ 0 ∷ []) two)) → ⊥
+append-paints n h = let z : _≡_ {A = ℕ} 9 0 = ap (λ (l : Lent). getD (l .screen) 0 0) (h .others) in omega arith
+
+-- a write of a FENCE, which is two words, writes the word behind them
+pub submit-too-far : OnlyNamed (submit (command (30 ∷ 7 ∷ []) [] [])) before
+    (record { answer = 0; values = []; world = lending (withRing memories (set (set (set (set ringWords 11 30) 12 7) 13 9) 2 52)) }) → ⊥
+unfolding commandWords dataWords tabulate
+submit-too-far h =
+    let z : _≡_ {A = ℕ} 9 0 = h .ring .elsewhere 13 (⊎-elim (λ e. omega arith) (λ f. omega (arith, from-next 2 13 (omega arith) f))) in omega arith
 
 -- a picture writes output behind the mode
 pub picture-beyond : PictureChanges before (showing (0 ∷ 9 ∷ [])) → ⊥

@@ -14,6 +14,7 @@ use Rattle.geometry.proofs.Tests.{both}
 use Rattle.ring.specs.Acceptance.{minOf, maxOf, nextOf, stopOf, usable}
 use Rattle.ring.specs.Append.{canAppend, appendOf}
 use Rattle.ring.proofs.AppendLaws.{append-refused}
+use Rattle.writer.proofs.Appending.{write-refused}
 use Rattle.register.specs.declared.Register.the-variants.{Writes}
 use Rattle.register.specs.declared.Writable.{Writable}
 use Rattle.register.specs.declared.Writable.the-variants.{Enable, Width, Height, ConfigDone}
@@ -37,7 +38,8 @@ use Rattle.register_write.proofs.Kept.{remembered, effect-taken, ring-taken, wr
 use Rattle.register_write.proofs.Refusals.{refused-changes-nothing, ill-formed-write, only}
 use Rattle.adapter.proofs.Refusals.{refused-picture}
 use Rattle.history.proofs.KeptByRun.{refused-run, run-well-formed}
-use Rattle.history.specs.Calls.{World, Call, make, write, read, run, append, picture, offscreen, fence, passed, lend, CallOutcome, withDevice, perform, performAll}
+use Rattle.history.specs.Calls.{World, Call, make, write, read, run, append, submit, picture, offscreen, fence, passed, lend}
+use Rattle.history.specs.Calls.{CallOutcome, withDevice, perform, performAll}
 use Rattle.history.specs.Demand.{ringAtStart, isStart}
 use Rattle.history.specs.Keeping.{starting, answers, Leaves, NoRun}
 use Rattle.history.specs.Keeping.{Keeping, reads, shows, edges, last-fence, has-passed, refusal, elsewhere, enabled, accepted}
@@ -268,6 +270,10 @@ enabled-again w s =
 
 -- ---- "Answers 20 to 34 change nothing"
 
+-- the world with another ring memory
+abbrev pub ringed : World → List ℕ → World
+ringed w ring = record { device = w .device; lent = R.withRing (w .lent) ring; output = w .output }
+
 -- a refused call, whichever it is, leaves every world as it was
 pub refused-stays : (c : Call) (w : World) → 20 ≤ perform c w .answer → perform c w .world ≡ w
 unfolding perform madeOf appendOf
@@ -286,6 +292,7 @@ refused-stays (append word) w h =
     cases (canAppend (w .lent .ring))
     (λ t. let z : 20 ≤ 0 = rw t at h in absurd (omega arith))
     (λ f. let z : 20 ≤ 1 = rw f at h in absurd (omega arith))
+refused-stays (submit c) w h = ap (ringed w) (write-refused (w .lent .ring) c (λ z. absurd (omega arith)))
 refused-stays picture w h =
     ap {B = World} (λ (output : List ℕ). record { device = w .device; lent = w .lent; output = output })
     (refused-picture (w .device) (w .lent .screen) (w .lent .cursor) (w .output) (λ z. absurd (omega arith)))
@@ -300,7 +307,7 @@ unfolding perform appendOf
 untaken-stays word w h =
     cases (canAppend (w .lent .ring))
     (λ t. let z : 0 ≡ 1 = rw t at h in absurd (omega arith))
-    (λ f. ap {B = World} (λ (ring : List ℕ). record { device = w .device; lent = R.withRing (w .lent) ring; output = w .output }) (append-refused (w .lent .ring) word f))
+    (λ f. ap (ringed w) (append-refused (w .lent .ring) word f))
 
 -- ---- the calls that leave a start a start
 
@@ -325,6 +332,7 @@ perform-well-formed (write index value) w y = written-well-formed (w .device) (w
 perform-well-formed (read index) w y = y
 perform-well-formed (run budget) w y = run-well-formed (w .device) (w .lent) budget y
 perform-well-formed (append word) w y = y
+perform-well-formed (submit c) w y = y
 perform-well-formed picture w y = y
 perform-well-formed offscreen w y = y
 perform-well-formed fence w y = y
@@ -349,6 +357,7 @@ leaves-condition (write index value) w h = condition-kept (w .device) (w .lent .
 leaves-condition (read index) w h = refl
 leaves-condition (run budget) w h = absurd h
 leaves-condition (append word) w h = refl
+leaves-condition (submit c) w h = refl
 leaves-condition picture w h = refl
 leaves-condition offscreen w h = refl
 leaves-condition fence w h = refl

@@ -4,6 +4,7 @@ use mathlib.Core.Bool.{cond}
 use mathlib.Core.List.{List, [], _∷_}
 use mathlib.Core.Option.{Option, none, some}
 use Rattle.ring.specs.Append.{appendOf}
+use Rattle.writer.specs.Writing.{Command, writeOf}
 use Rattle.device.specs.declared.Device.{Device}
 use Rattle.device.specs.Making.{Creation, madeOf}
 use Rattle.register_read.specs.Registers.{readOf}
@@ -26,6 +27,7 @@ pub data Call : Type 0 where
   read : ℕ → Call
   run : ℕ → Call
   append : ℕ → Call
+  submit : Command → Call
   picture offscreen fence : Call
   passed : ℕ → Call
   lend : Lent → List ℕ → Call
@@ -63,6 +65,13 @@ perform (run budget) w =
     }
 perform (append word) w =
     let o = appendOf (w .lent .ring) word in
+    record {
+      answer = o .answer;
+      values = [];
+      world = record { device = w .device; lent = withRing (w .lent) (o .ring); output = w .output };
+    }
+perform (submit c) w =
+    let o = writeOf (w .lent .ring) c in
     record {
       answer = o .answer;
       values = [];

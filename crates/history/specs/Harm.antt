@@ -10,7 +10,9 @@ use lib.ListN.{length, getD}
 use Rattle.execution.specs.declared.Cause.{Cause}
 use Rattle.execution.specs.Straight.{causeNumber, Turn, ends, exec, Line, beyond, next}
 use Rattle.ring.specs.declared.Ring.{Ring}
-use Rattle.ring.specs.Acceptance.{nextOf}
+use Rattle.ring.specs.Acceptance.{minOf, maxOf, nextOf}
+use Rattle.ring.specs.Waiting.{ahead}
+use Rattle.writer.specs.Writing.{commandWords}
 use Rattle.register.specs.declared.Register.the-variants.{Writes}
 use Rattle.register.specs.declared.Writable.{Writable}
 use Rattle.register.specs.Numbers.{registerOf}
@@ -24,18 +26,20 @@ use Rattle.device.specs.declared.Condition.the-variants.{Idle, Running, Faulted
 use Rattle.device.specs.Device.{fresh, widthOf, heightOf}
 use Rattle.register_read.specs.Registers.{writableValue}
 use Rattle.device_run.specs.Run.{withRing, lineOf, turnFor}
-use Rattle.history.specs.Calls.{World, Call, make, write, read, run, append, picture, offscreen, fence, passed, lend, CallOutcome, perform}
+use Rattle.history.specs.Calls.{World, Call, make, write, read, run, append, submit, picture, offscreen, fence, passed, lend, CallOutcome, perform}
 
 -- ---- answers
 
 -- Document 01, "Answer numbers": the numbers in whose row a call stands. 20 is CONFIG_DONE's alone among the registers. Document 01's table has no
--- number for an append, which is 0 taken, 1 refused, and none for the calls that cannot be refused.
+-- number for an append, which is 0 taken, 1 refused, and none for the calls that cannot be refused. A command's write: document 02, P2, "33 ..; 41 ..; 20
+-- ..; 40".
 abbrev pub row : Call → List ℕ
 row (make memory pixels) = 0 ∷ 34 ∷ []
 row (write index value) = cond (eqb index 20) (0 ∷ 20 ∷ 30 ∷ 31 ∷ 32 ∷ 33 ∷ []) (0 ∷ 30 ∷ 31 ∷ 32 ∷ 33 ∷ [])
 row (read index) = 0 ∷ 30 ∷ []
 row (run budget) = 0 ∷ 1 ∷ 2 ∷ 10 ∷ 11 ∷ 12 ∷ 13 ∷ 20 ∷ 21 ∷ 22 ∷ 23 ∷ 24 ∷ []
 row (append word) = 0 ∷ 1 ∷ []
+row (submit c) = 0 ∷ 20 ∷ 33 ∷ 40 ∷ 41 ∷ []
 row picture = 0 ∷ 20 ∷ 24 ∷ []
 row offscreen = 0 ∷ []
 row fence = 0 ∷ []
@@ -128,9 +132,13 @@ pub record RunChanges (a k : ℕ) (w z : World) : Type 0 where
   -- where nothing was consumed, no memory changes, nor fence or defined cursor
   pub nothing-consumed : k ≡ 0 → (z .lent ≡ w .lent) × (z .device .marks ≡ w .device .marks)
 
--- "An append writes its word at NEXT_CMD and moves NEXT_CMD on": ring word 2 and the word where NEXT_CMD stood.
-pub record AppendChanges (w z : World) : Type 0 where
-  pub ring : SameBut (λ i. (i ≡ 2) ⊎ (i ≡ nextOf (w .lent .ring) / 4)) (w .lent .ring) (z .lent .ring)
+-- "An append writes its word at NEXT_CMD and moves NEXT_CMD on": ring word 2 and n words from where NEXT_CMD stood, one for an append, all its words for
+-- a command. "Words wrap from MAX to MIN".
+abbrev pub FromNext : List ℕ → ℕ → ℕ → Type 0
+FromNext ring n i = (k : ℕ) × (k < n) × (i ≡ ahead (minOf ring / 4) (maxOf ring / 4) (nextOf ring / 4) k)
+
+pub record AppendChanges (n : ℕ) (w z : World) : Type 0 where
+  pub ring : SameBut (λ i. (i ≡ 2) ⊎ FromNext (w .lent .ring) n i) (w .lent .ring) (z .lent .ring)
   pub device : z .device ≡ w .device
   -- no other lent memory
   pub others : z .lent ≡ withRing (w .lent) (z .lent .ring)
@@ -149,7 +157,8 @@ OnlyNamed (make memory pixels) w o =
 OnlyNamed (write index value) w o = WriteChanges index value w (o .world)
 OnlyNamed (read index) w o = o .world ≡ w
 OnlyNamed (run budget) w o = RunChanges (o .answer) (getD (o .values) 0 0) w (o .world)
-OnlyNamed (append word) w o = AppendChanges w (o .world)
+OnlyNamed (append word) w o = AppendChanges 1 w (o .world)
+OnlyNamed (submit c) w o = AppendChanges (length (commandWords c)) w (o .world)
 OnlyNamed picture w o = PictureChanges w (o .world)
 OnlyNamed offscreen w o = o .world ≡ w
 OnlyNamed fence w o = o .world ≡ w

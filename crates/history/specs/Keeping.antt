@@ -3,7 +3,7 @@ use Prim.Native.Nat.{ℕ, _≤_}
 use mathlib.Core.Path.{_≡_}
 use mathlib.Core.List.{List, [], _∷_, map}
 use mathlib.Core.Logic.{_⊎_}
-use Rattle.history.specs.Calls.{World, Call, make, write, read, run, append, picture, offscreen, fence, passed, lend, CallOutcome, perform, History}
+use Rattle.history.specs.Calls.{World, Call, make, write, read, run, append, submit, picture, offscreen, fence, passed, lend, CallOutcome, perform, History}
 
 -- "the making and register writes that lead to the start"
 abbrev pub starting : ℕ → ℕ → ℕ → ℕ → List Call
@@ -20,7 +20,7 @@ pub data Keeping (w : World) : Call → Type 0 where
   edges : Keeping w offscreen
   last-fence : Keeping w fence
   has-passed : (number : ℕ) → Keeping w (passed number)
-  -- "refusals aside": refused with a number of document 01's table
+  -- "refusals aside": refused with a number of documents 01 and 02
   refusal : (c : Call) → 20 ≤ perform c w .answer → Keeping w c
   -- a register other than ENABLE, WIDTH, HEIGHT and CONFIG_DONE
   elsewhere : (index value : ℕ) → (index ≡ 1 → ⊥) → (index ≡ 2 → ⊥) → (index ≡ 3 → ⊥) → (index ≡ 20 → ⊥) → Keeping w (write index value)
@@ -35,6 +35,7 @@ Leaves (write index value) = index ≡ 20 → ⊥
 Leaves (read index) = Unit {0}
 Leaves (run budget) = ⊥
 Leaves (append word) = Unit {0}
+Leaves (submit c) = Unit {0}
 Leaves picture = Unit {0}
 Leaves offscreen = Unit {0}
 Leaves fence = Unit {0}

@@ -5,3 +5,4 @@ pub mod Keeping
 pub mod Replay
 pub mod OtherId
 pub mod Pairs
+pub mod Submitted

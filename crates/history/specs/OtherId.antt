@@ -6,7 +6,7 @@ use mathlib.Core.List.{List, [], _∷_, map}
 use Rattle.device.specs.declared.Device.{Device}
 use Rattle.device.specs.Device.{enabledOf, configuredOf, withRegisters}
 use Rattle.register_write.specs.Registers.{setState}
-use Rattle.history.specs.Calls.{World, Call, make, write, read, run, append, picture, offscreen, fence, passed, lend, CallOutcome, History}
+use Rattle.history.specs.Calls.{World, Call, make, write, read, run, append, submit, picture, offscreen, fence, passed, lend, CallOutcome, History}
 
 -- the device with another id
 abbrev pub withId : Device → ℕ → Device
@@ -31,6 +31,7 @@ NotTheId (write index value) = Unit {0}
 NotTheId (read index) = index ≡ 0 → ⊥
 NotTheId (run budget) = Unit {0}
 NotTheId (append word) = Unit {0}
+NotTheId (submit c) = Unit {0}
 NotTheId picture = Unit {0}
 NotTheId offscreen = Unit {0}
 NotTheId fence = Unit {0}

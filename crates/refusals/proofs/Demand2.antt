@@ -1,9 +1,9 @@
 -- Demand 2: "The device does what the published SVGA interface says, as document 01 condenses it: .. and a refusal comes exactly when its rule says so."
 --
 -- Call by call: the definition that the call's contract states an equation with, and for each refusal the if and only if. `A ↔ B` reads: A if and only
--- if B. The rules, as Run20 for a run's answer 20, are in specs/Refusing.antt: each is document 01's, with those that are checked before it ruled out. `-0`
--- is what is taken, `-nothing` that a refusal changes nothing, `-ill-formed` what a device value is answered that no call can have made
--- (`device/Device.wellFormed`). Index, value, budget, word and lent memories are any.
+-- if B. The rules, as Run20 for a run's answer 20, are in specs/Refusing.antt: each is document 01's, or document 02's for a command's write, with those that
+-- are checked before it ruled out. `-0` is what is taken, `-nothing` that a refusal changes nothing, `-ill-formed` what a device value is answered that no
+-- call can have made (`device/Device.wellFormed`). Index, value, budget, word, command and lent memories are any.
 -- Assumes nothing.
 use mathlib.Core.Path.{_≡_, refl, sym, ap, _∙_}
 use mathlib.Core.Bool.{true, false, false≢true, true≢false}
@@ -48,6 +48,9 @@ use Rattle.adapter.specs.Picture.{pictureOf}
 use Rattle.register_read.specs.Registers.{readBy, readOf}
 use Rattle.register_write.specs.Registers.{written}
 use Rattle.register_write.specs.Rules.{no-register, read-only, bad-value, wrong-length, ring-refused, is-taken}
+use Rattle.writer.specs.Writing.{Command, carriedIn, writeOf}
+use Rattle.writer.proofs.Taking.{not-taken, taken-is}
+use Rattle.writer.proofs.Appending.{write-refused}
 use Rattle.device_run.specs.Run.{Lent, RunOutcome, conditionAfter, busyAfter, machineOf, sceneFor, lineOf, turnFor, ran, refusedRun, runBy, runOf}
 use Rattle.device.proofs.Kept.{make-refused}
 use Rattle.register_write.proofs.Refusals as WriteRefusals
@@ -57,12 +60,13 @@ use Rattle.device_run.proofs.RunLaws.{run-by}
 use Rattle.refusals.specs.Refusing.{isRefusal, Sizes, Make34, Write30, Write31, Write32, Write20, Write33, Write0, Read30}
 use Rattle.refusals.specs.Refusing.{Run20, Run22, Run21, Run24, Run23, Starts, NextUsable, leftBy, passedBy, wholeWaiting, stopsAt, Reaches, RunLeaves}
 use Rattle.refusals.specs.Refusing.{PictureLent, Picture20, Picture24, Append1}
+use Rattle.refusals.specs.Refusing.{Submit33, Submit41, Submit20, Submit40, Submit0}
 use Rattle.refusals.specs.Refusing.{Turn0, Turn10, HeadMissing, HeadBad, Turn12, WordsMissing, OperandBad, Executes}
-use Rattle.refusals.proofs.Reasons.{fails, sizes-good, ring-usable, not-usable, picture-lent, next-usable, next-unusable, ranged}
+use Rattle.refusals.proofs.Reasons.{fails, sizes-good, ring-usable, not-usable, picture-lent, lent-as-asked, next-usable, next-unusable, ranged}
 use Rattle.refusals.proofs.Reasons.{end-number, stops-2, verdict-ends, run-stops, run-none, run-unusable, run-straight, fault-after, ring-carries}
 use Rattle.refusals.proofs.Reasons as Reasons
 use Rattle.refusals.proofs.Rules.{write-why, ended-taken, is-lent, not-lent, start, start-fits, start-ended, ran-leaves, ran-posts, ran-waits}
-use Rattle.refusals.proofs.Rules.{leaves-one, leaves-six, by-refusals, run-why}
+use Rattle.refusals.proofs.Rules.{leaves-one, leaves-six, by-refusals, run-why, submit-why}
 use Rattle.refusals.proofs.Rules.{turn-why, finds-0, finds-10, finds-1, finds-11, finds-12, finds-command}
 
 not-zero : {a : ℕ} → isRefusal a ≡ true → a ≡ 0 → ⊥
@@ -481,6 +485,49 @@ module _ (ring : List ℕ) (word : ℕ) where
   pub append-nothing : appendOf ring word .answer ≡ 1 → appendOf ring word .ring ≡ ring
   unfolding appendOf
   append-nothing e = append-refused ring word (refuses e)
+
+-- ---- a command's write
+
+module _ (ring : List ℕ) (c : Command) where
+  -- `writer::write` equals `writer/Writing.writeOf`: an answer and the ring memory that is left
+
+  -- "33 if the ring words are missing or unusable by document 01's rule"
+  pub submit-33 : (writeOf ring c .answer ≡ 33) ↔ Submit33 ring c
+  unfolding writeOf
+  submit-33 = (submit-why ring c 33, λ x. rw (not-usable ring .1 x))
+
+  -- "41 if the number isn't in document 01's command table or the device would fault with 11 or 12"
+  pub submit-41 : (writeOf ring c .answer ≡ 41) ↔ Submit41 ring c
+  unfolding writeOf
+  submit-41 = (submit-why ring c 41, λ x. rw (ring-usable ring .1 (x .0), not-taken (carriedIn ring) (c .head) .1 (x .1)))
+
+  -- "20 if the lent pixels or data don't number what the head says"
+  pub submit-20 : (writeOf ring c .answer ≡ 20) ↔ Submit20 ring c
+  unfolding writeOf
+  submit-20 = (
+    submit-why ring c 20,
+    λ x. rw (ring-usable ring .1 (x .0), taken-is (carriedIn ring) (c .head) .1 (x .1), fails _ (lent-as-asked ring c) .1 (x .2)),
+  )
+
+  -- "40 exactly if the command could fit the ring but there are too few free words now"
+  pub submit-40 : (writeOf ring c .answer ≡ 40) ↔ Submit40 ring c
+  unfolding writeOf
+  submit-40 = (
+    submit-why ring c 40,
+    λ x. rw (ring-usable ring .1 (x .0), taken-is (carriedIn ring) (c .head) .1 (x .1), lent-as-asked ring c .1 (x .2), lt-leb _ _ (x .3)),
+  )
+
+  -- else it is taken
+  pub submit-0 : (writeOf ring c .answer ≡ 0) ↔ Submit0 ring c
+  unfolding writeOf
+  submit-0 = (
+    submit-why ring c 0,
+    λ x. rw (ring-usable ring .1 (x .0), taken-is (carriedIn ring) (c .head) .1 (x .1), lent-as-asked ring c .1 (x .2), le-leb _ _ (x .3)),
+  )
+
+  -- "in that order, nothing written"
+  pub submit-nothing : (writeOf ring c .answer ≡ 0 → ⊥) → writeOf ring c .ring ≡ ring
+  submit-nothing = write-refused ring c
 
 -- ---- the calls that refuse nothing
 --

@@ -36,11 +36,13 @@ use Rattle.run.proofs.RunLaws.{fitting-placed, left-same, run-next-unusable, ru
 use Rattle.device.specs.declared.Condition.the-variants.{Idle, Running, Faulted}
 use Rattle.device.specs.declared.Device.{Device}
 use Rattle.device.specs.Device.{memoryOf, pixelsOf, configuredOf, conditionOf, sizesGood, conditionGood, wellFormed}
+use Rattle.writer.specs.Writing.{Command}
+use Rattle.writer.specs.Writing as Writer
 use Rattle.adapter.specs.Picture.{lengthsGood}
 use Rattle.device_run.specs.Run.{Lent, lentGood, conditionAfter}
 use Rattle.device.proofs.Laws.{well-formed}
 use Rattle.register_write.specs.Registers.{inRange}
-use Rattle.refusals.specs.Refusing.{Sizes, Ranged, RunLent, NextUsable, PictureLent}
+use Rattle.refusals.specs.Refusing.{Sizes, Ranged, RunLent, NextUsable, PictureLent, LentAsAsked}
 
 -- ---- tests
 
@@ -85,6 +87,13 @@ module _ (d : Device) where
     λ e. let a = both _ _ e in let b = both _ _ (a .1) in (eqb-true _ _ (a .0), eqb-true _ _ (b .0), eqb-true _ _ (b .1)),
     λ s. rw (eq-eqb _ _ (s .0), eq-eqb _ _ (s .1), eq-eqb _ _ (s .2)),
   )
+
+pub lent-as-asked : (ring : List ℕ) (c : Command) → (Writer.lentGood c ≡ true) ↔ LentAsAsked ring c
+unfolding Writer.lentGood
+lent-as-asked ring c = (
+  λ e. let a = both _ _ e in (eqb-true _ _ (a .0), eqb-true _ _ (a .1)),
+  λ s. rw (eq-eqb _ _ (s .0), eq-eqb _ _ (s .1)),
+)
 
 pub next-usable : (g : Ring) (next : ℕ) → (nextGood g next ≡ true) ↔ NextUsable g next
 unfolding nextGood

@@ -1,4 +1,5 @@
--- The rules that readers' theorems are stated with are not met by everything: each refuses what document 01 does, and an if and only if with it says something.
+-- The rules that readers' theorems are stated with are not met by everything: each refuses what documents 01 and 02 do, and an if and only if with
+-- it says something.
 -- Assumes nothing.
 use mathlib.Core.Path.{_≡_, refl, sym, ap, subst, _∙_}
 use mathlib.Core.Bool.{true, false, false≢true, true≢false}
@@ -7,6 +8,7 @@ use mathlib.Core.Logic.{⊎-elim}
 use Prim.Native.Nat.{ℕ, suc, _*_, _≤_}
 use native.Mathlib.Omega.{arith}
 use lib.ListN.{length, getD}
+use borrow.Author.Tests.{le-leb}
 use Rattle.ring.specs.declared.Ring.{Ring}
 use Rattle.ring.specs.Acceptance.{minOf, maxOf, nextOf, stopOf, Usable}
 use Rattle.ring.specs.Append.{movedOn}
@@ -15,12 +17,15 @@ use Rattle.register.specs.Numbers.{numbers, registerOf}
 use Rattle.cursor.specs.Plane.{shapeGood}
 use Rattle.execution.specs.Straight.{straight}
 use Rattle.command.specs.Commands.{entry, kindOf}
+use Rattle.writer.specs.Writing.{Command, command, commandWords, isCommand, carriedIn, freeWords}
+use Rattle.writer.proofs.Taking.{not-taken, taken-is}
 use Rattle.device.specs.declared.Device.{Device}
 use Rattle.device.specs.declared.Condition.the-variants.{Running, Faulted}
 use Rattle.device.specs.Device.{pixelsOf, widthOf, heightOf, enabledOf, configuredOf, conditionOf}
 use Rattle.device_run.specs.Run.{Lent, RunOutcome}
 use Rattle.refusals.specs.Refusing.{isRefusal, Sizes, Make34, Ranged, Write30, Write31, Write32, Write20, Write33, Write0, Read30, PictureLent, Picture20, Picture24}
 use Rattle.refusals.specs.Refusing.{RunLent, Run20, Run22, Run21, Run24, Run23, Starts, NextUsable, leftBy, Reaches, RunLeaves, Append1}
+use Rattle.refusals.specs.Refusing.{Submit33, Submit41, Submit20, Submit40, Submit0}
 use Rattle.refusals.specs.Refusing.{Turn0, Turn10, HeadMissing, HeadBad, Turn12, WordsMissing, OperandBad, Executes}
 use Rattle.refusals.proofs.Rules.{leaves-six}
 
@@ -95,6 +100,46 @@ usable-not-min-12 words u = omega (arith, u .low)
 -- an append that leaves NEXT_CMD before ring word 3, or past it, is taken
 pub append-1-not-room : (ring : List ℕ) → Usable ring → (¬ (movedOn (minOf ring) (maxOf ring) (nextOf ring) ≡ stopOf ring)) → ¬ Append1 ring
 append-1-not-room ring u room x = ⊎-elim (λ n. n u) room x
+
+-- ---- a command's write
+
+pub submit-33-not-usable : (ring : List ℕ) (c : Command) → Usable ring → ¬ Submit33 ring c
+submit-33-not-usable ring c u n = n u
+
+-- every usable ring carries a FENCE
+pub submit-41-not-fence : (ring : List ℕ) (number : ℕ) → ¬ Submit41 ring (command (30 ∷ number ∷ []) [] [])
+unfolding isCommand entry kindOf
+submit-41-not-fence ring number x =
+    let u = x .0 in
+    let fits : 2 ≤ carriedIn ring = omega arith in
+    taken-is (carriedIn ring) (30 ∷ number ∷ []) .0 (rw (le-leb 2 (carriedIn ring) fits)) (x .1)
+
+-- a cursor of 65 columns is 41, whatever pixels are lent with it
+pub submit-20-not-65-wide : (ring : List ℕ) (id : ℕ) (pixels : List ℕ) → ¬ Submit20 ring (command (22 ∷ id ∷ 0 ∷ 0 ∷ 65 ∷ 1 ∷ []) pixels [])
+unfolding isCommand entry kindOf shapeGood
+submit-20-not-65-wide ring id pixels x = x .1 (not-taken (carriedIn ring) (22 ∷ id ∷ 0 ∷ 0 ∷ 65 ∷ 1 ∷ []) .0 refl)
+
+-- as many free words as the command has are enough
+pub submit-40-not-just-free : (ring : List ℕ) (c : Command) → freeWords ring ≡ length (commandWords c) → ¬ Submit40 ring c
+submit-40-not-just-free ring c free x = omega (arith, x .3)
+
+-- where no word is free, a FENCE is not taken
+pub submit-0-not-full : (ring : List ℕ) (number : ℕ) → freeWords ring ≡ 0 → ¬ Submit0 ring (command (30 ∷ number ∷ []) [] [])
+unfolding commandWords
+submit-0-not-full ring number full x = omega (arith, x .3)
+
+-- eight bytes are not the five that an ESCAPE says, though they are as many words: it is 20 in every usable ring, and never taken
+pub submit-0-not-8-bytes-for-5 : (ring : List ℕ) (namespace : ℕ) (bytes : List ℕ) → length bytes ≡ 8
+    → ¬ Submit0 ring (command (33 ∷ namespace ∷ 5 ∷ []) [] bytes)
+unfolding kindOf
+submit-0-not-8-bytes-for-5 ring namespace bytes eight x = omega (arith, eight, x .2 .1)
+
+pub submit-20-8-bytes-for-5 : (ring : List ℕ) (namespace : ℕ) (bytes : List ℕ) → length bytes ≡ 8 → Usable ring
+    → Submit20 ring (command (33 ∷ namespace ∷ 5 ∷ []) [] bytes)
+unfolding isCommand entry kindOf
+submit-20-8-bytes-for-5 ring namespace bytes eight u =
+    let fits : 5 ≤ carriedIn ring = omega arith in
+    (u, taken-is (carriedIn ring) (33 ∷ namespace ∷ 5 ∷ []) .0 (rw (le-leb 5 (carriedIn ring) fits)), λ x. omega (arith, eight, x .1))
 
 -- ---- a run and a picture
 

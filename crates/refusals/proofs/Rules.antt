@@ -1,4 +1,4 @@
--- The rule of each number that a register write or a run answers, as one family: an answer's rule holds.
+-- The rule of each number that a register write, a run or a command's write answers, as one family: an answer's rule holds.
 -- Assumes nothing.
 use mathlib.Core.Path.{_≡_, refl, sym, ap, subst, _∙_}
 use mathlib.Core.Bool.{true, false, cond}
@@ -39,13 +39,19 @@ use Rattle.device.specs.declared.Device.{Device}
 use Rattle.device.specs.Device.{pixelsOf, widthOf, heightOf, enabledOf, configuredOf, conditionOf, modeFits, wellFormed}
 use Rattle.register_write.specs.Registers.{written}
 use Rattle.device_run.specs.Run.{Lent, RunOutcome, lentGood, conditionAfter, busyAfter, machineOf, sceneFor, lineOf, turnFor, ran, refusedRun, runBy, runOf}
+use Rattle.writer.specs.declared.WriterAnswer.the-variants.{Taken, LentLength, RingRefused, NoRoom, NotACommand}
+use Rattle.writer.specs.Writing.{Command, Written, commandWords, carriedIn, appendAll, writeOf}
+use Rattle.writer.specs.Writing as Writer
+use Rattle.writer.proofs.Taking.{not-taken, taken-is}
+use Rattle.writer.proofs.Appending.{by-tests}
 use Rattle.register_write.specs.Rules.{Why, no-register, read-only, bad-value, wrong-length, ring-refused, is-taken}
 use Rattle.register_write.proofs.Refusals.{why}
 use Rattle.device_run.proofs.RunLaws.{run-by}
 use Rattle.refusals.specs.Refusing.{isRefusal, Write30, Write31, Write32, Write20, Write33, Write0, RunLent, Run20, Run22, Run21, Run24, Run23, Starts}
 use Rattle.refusals.specs.Refusing.{leftBy, passedBy, wholeWaiting, answerBy, RunLeaves}
 use Rattle.refusals.specs.Refusing.{Turn0, Turn10, HeadMissing, HeadBad, Turn12, WordsMissing, OperandBad, Executes}
-use Rattle.refusals.proofs.Reasons.{fails, ring-usable, not-usable, lent-good, ranged}
+use Rattle.refusals.specs.Refusing.{Submit33, Submit41, Submit20, Submit40, Submit0}
+use Rattle.refusals.proofs.Reasons.{fails, ring-usable, not-usable, lent-good, lent-as-asked, ranged}
 use Rattle.refusals.proofs.Reasons.{stops-numbers, goes-words, run-stops, not-idle, ring-fits}
 
 -- ---- register write
@@ -350,3 +356,33 @@ module _ {S : Type 0} (knownOf : S → Known) (does : Action → List ℕ → S 
   pub finds-command : Executes (knownOf s) cap w
       → turn ≡ exec (sizeBy (kindIn w) w) (does (entry (kindIn w) .action w) (take (sizeBy (kindIn w) w) w) s)
   finds-command (((some, a, b), c, d, e), f) = by some _ (well a b c d e f)
+
+-- ---- a command's write
+
+module _ (ring : List ℕ) (c : Command) where
+  -- by its refusals, in document 02's order
+  by-submits : (P : Written → Type 0)
+      → (Submit33 ring c → P (Writer.written RingRefused ring))
+      → (Submit41 ring c → P (Writer.written NotACommand ring))
+      → (Submit20 ring c → P (Writer.written LentLength ring))
+      → (Submit40 ring c → P (Writer.written NoRoom ring))
+      → (Submit0 ring c → P (Writer.written Taken (appendAll ring (commandWords c))))
+      → P (writeOf ring c)
+  by-submits P on-33 on-41 on-20 on-40 taken =
+      let is = taken-is (carriedIn ring) (c .head) in
+      let lent = lent-as-asked ring c in
+      by-tests ring c P
+      (λ u. on-33 (not-usable ring .0 u))
+      (λ u h. on-41 (u, not-taken (carriedIn ring) (c .head) .0 h))
+      (λ u h l. on-20 (u, is .0 h, fails _ lent .0 l))
+      (λ u h l f. on-40 (u, is .0 h, lent .0 l, f))
+      (λ f. taken (f .usable, is .0 (f .is-command), lent .0 (f .lent), f .room))
+
+  abbrev SubmitRule : ℕ → Type 0
+  SubmitRule a =
+      cond (eqb a 33) (Submit33 ring c)
+      (cond (eqb a 41) (Submit41 ring c)
+      (cond (eqb a 20) (Submit20 ring c) (cond (eqb a 40) (Submit40 ring c) (cond (eqb a 0) (Submit0 ring c) ⊥))))
+
+  pub submit-why : (a : ℕ) → writeOf ring c .answer ≡ a → SubmitRule a
+  submit-why a e = subst SubmitRule e (by-submits (λ (o : Written). SubmitRule (o .answer)) (λ x. x) (λ x. x) (λ x. x) (λ x. x) (λ x. x))

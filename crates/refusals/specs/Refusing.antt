@@ -1,4 +1,4 @@
--- When document 01 refuses a call: for each call and each number its rule, and that no rule that is checked before it holds.
+-- When documents 01 and 02 refuse a call: for each call and each number its rule, and that no rule that is checked before it holds.
 -- A device is one that calls have made. Lengths are in words; M and P are what the device was made for.
 use mathlib.Core.Path.{_≡_}
 use mathlib.Core.Bool.{Bool, true, false, cond, _&&_}
@@ -19,6 +19,9 @@ use Rattle.register.specs.declared.Writable.{Writable}
 use Rattle.register.specs.declared.Writable.the-variants.{Id, Enable, Width, Height, ConfigDone, Sync, GuestId, CursorId, CursorX, CursorY, CursorOn}
 use Rattle.register.specs.Numbers.{registerOf}
 use Rattle.command.specs.Commands.{Known, entry, sizeBy, kindIn}
+use Rattle.command.specs.Findings.{dataOf}
+use Rattle.writer.specs.Writing.{Command, commandWords, pixelsAsked, bytesAsked, carriedIn, freeWords}
+use Rattle.writer.specs.Reading.{NotTaken}
 use Rattle.effect.specs.Effects.{Machine}
 use Rattle.run.specs.Run.{passed, stamped, postsIn, posting}
 use Rattle.device.specs.declared.Condition.the-variants.{Running, Faulted}
@@ -249,3 +252,31 @@ Picture24 d screen image output = PictureLent d screen image output × (pixelsOf
 -- not as CONFIG_DONE asks.
 abbrev pub Append1 : List ℕ → Type 0
 Append1 ring = (¬ Usable ring) ⊎ (movedOn (minOf ring) (maxOf ring) (nextOf ring) ≡ stopOf ring)
+
+-- ---- a command's write: document 02, P2, "33 ..; 41 ..; 20 ..; 40 ..; in that order, nothing written"
+
+module _ (ring : List ℕ) (c : Command) where
+  -- "33 if the ring words are missing or unusable by document 01's rule, M being four times the lent words"
+  abbrev pub Submit33 : Type 0
+  Submit33 = ¬ Usable ring
+
+  -- "41 if the number isn't in document 01's command table or the device would fault with 11 or 12"
+  abbrev pub Submit41 : Type 0
+  Submit41 = Usable ring × NotTaken (carriedIn ring) (c .head)
+
+  -- "the lent pixels or data .. number what the head says (none where no head asks for them)"
+  abbrev pub LentAsAsked : Type 0
+  LentAsAsked =
+      (length (c .pixels) ≡ pixelsAsked (dataOf (kindIn (c .head))) (c .head)) × (length (c .bytes) ≡ bytesAsked (dataOf (kindIn (c .head))) (c .head))
+
+  -- "20 if the lent pixels or data don't number what the head says"
+  abbrev pub Submit20 : Type 0
+  Submit20 = Usable ring × (¬ NotTaken (carriedIn ring) (c .head)) × (¬ LentAsAsked)
+
+  -- "40 exactly if the command could fit the ring but there are too few free words now"
+  abbrev pub Submit40 : Type 0
+  Submit40 = Usable ring × (¬ NotTaken (carriedIn ring) (c .head)) × LentAsAsked × (freeWords ring < length (commandWords c))
+
+  -- none of these: it is appended
+  abbrev pub Submit0 : Type 0
+  Submit0 = Usable ring × (¬ NotTaken (carriedIn ring) (c .head)) × LentAsAsked × (length (commandWords c) ≤ freeWords ring)

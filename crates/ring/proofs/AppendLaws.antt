@@ -127,7 +127,8 @@ snoc ring lo hi stop q x y l a b c d f g =
 
 -- MIN, MAX and STOP in words
 module _ (ring : List ℕ) (lo hi stop : ℕ) (low : lo ≡ minOf ring / 4) (high : hi ≡ maxOf ring / 4) (last : stop ≡ stopOf ring / 4) where
-  moved : Usable ring → movedOn (minOf ring) (maxOf ring) (nextOf ring) ≡ 4 * after lo hi (nextOf ring / 4)
+  -- where NEXT_CMD moves on to
+  pub moved : Usable ring → movedOn (minOf ring) (maxOf ring) (nextOf ring) ≡ 4 * after lo hi (nextOf ring / 4)
   moved u =
       let l : minOf ring ≡ 4 * lo = omega arith in
       let h : maxOf ring ≡ 4 * hi = omega arith in

@@ -39,8 +39,18 @@ ahead-after lo hi p k h =
     (λ e. rw e (let s : suc p + k ≡ p + suc k = omega arith in rw s))
     (λ e. let u : hi ≤ suc p = ltb-false _ _ e in rw (e, lt-ltb (lo + k) hi (omega arith), le-ltb (p + suc k) hi (omega arith)) (omega arith))
 
+-- k words on, and n more
+pub ahead-ahead : (lo hi p k n : ℕ) → lo ≤ p → p < hi → k + n + lo ≤ hi → ahead lo hi (ahead lo hi p k) n ≡ ahead lo hi p (k + n)
+unfolding ahead
+ahead-ahead lo hi p k n from below held =
+    cases (ltb (p + k) hi)
+    (λ t. let u : p + k < hi = ltb-true _ _ t in cases (ltb (p + k + n) hi)
+    (λ e. let f : p + k + n < hi = ltb-true _ _ e in rw (t, e, lt-ltb (p + (k + n)) hi (omega arith)) (omega arith))
+    (λ e. let f : hi ≤ p + k + n = ltb-false _ _ e in rw (t, e, le-ltb (p + (k + n)) hi (omega arith)) (omega arith)))
+    (λ t. let u : hi ≤ p + k = ltb-false _ _ t in rw (t, lt-ltb (p + k - (hi - lo) + n) hi (omega arith), le-ltb (p + (k + n)) hi (omega arith)) (omega arith))
+
 -- one place on, with one word fewer
-next-in : (lo hi p n : ℕ) → InRing lo hi p (suc n) → InRing lo hi (after lo hi p) n
+pub next-in : (lo hi p n : ℕ) → InRing lo hi p (suc n) → InRing lo hi (after lo hi p) n
 next-in lo hi p n h = let q = after-in lo hi p (h .from) (h .below) in record { from = q .0; below = q .1; held = omega arith }
 
 pub length-words : (ring : List ℕ) (lo hi p n : ℕ) → length (words ring lo hi p n) ≡ n
@@ -102,6 +112,14 @@ words-snoc ring lo hi p (suc n) x h f =
     ap₂ _∷_ (getD-set-other ring (ahead lo hi p (suc n)) p x 0 (λ e. ahead-other lo hi p n h (sym e)))
     (ap (λ k. words (set ring k x) lo hi (after lo hi p) (suc n)) (sym (ahead-after lo hi p n (record { from = h .from; below = h .below; held = omega arith })))
     ∙ words-snoc ring lo hi (after lo hi p) n x (next-in lo hi p (suc n) h) f)
+
+-- k words on from a place are k words from it
+pub between-on : (lo hi p k : ℕ) → lo ≤ p → p < hi → k + lo < hi → between lo hi p (ahead lo hi p k) ≡ k
+unfolding between ahead
+between-on lo hi p k a b h =
+    cases (ltb (p + k) hi)
+    (λ t. rw (t, le-leb p (p + k) (omega arith)) (omega arith))
+    (λ f. let v : hi ≤ p + k = ltb-false _ _ f in rw (f, lt-leb p (p + k - (hi - lo)) (omega arith)) (omega arith))
 
 -- the number of words from one place up to another
 module _ (lo hi p q : ℕ) (a : lo ≤ p) (b : p < hi) (c : lo ≤ q) (d : q < hi) where

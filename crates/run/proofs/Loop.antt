@@ -10,7 +10,7 @@ use lib.Dec.{eqb, ltb, leb}
 use lib.ListN.{length, take, drop, length-drop, take-append-drop}
 use lib.Seq.{drop-drop, drop-append-le, length-take-le}
 use mathlib.Core.Logic.{_≢_}
-use borrow.Author.Tests.{ltb-true, ltb-false, lt-ltb, le-ltb, eqb-true, eqb-false, eq-eqb, ne-eqb}
+use borrow.Author.Tests.{ltb-true, ltb-false, lt-ltb, eqb-true, eqb-false, eq-eqb, ne-eqb}
 use borrow.Table.Steps.{cases}
 use Rattle.execution.specs.declared.End.{End}
 use Rattle.execution.specs.Straight.{Line, ends, exec}
@@ -20,7 +20,7 @@ use Rattle.execution.specs.Claim as Claim
 use Rattle.execution.specs.Turns.{LineRun, runs}
 use Rattle.execution.proofs.QueueLaws.{runs-ends, runs-exec}
 use Rattle.ring.specs.Waiting.{ahead, words, carried}
-use Rattle.ring.proofs.WaitingLaws.{InRing, ahead-in, ahead-zero, length-words, take-words, drop-words}
+use Rattle.ring.proofs.WaitingLaws.{InRing, ahead-in, ahead-zero, ahead-ahead, length-words, take-words, drop-words}
 use Rattle.cursor.specs.declared.Defined.{Defined}
 use Rattle.command.proofs.Laws.{command-laws}
 use Rattle.effect.specs.declared.Marks.{Marks}
@@ -36,16 +36,6 @@ use Rattle.run.proofs.Posting.{clear-min, length-written, written-words
 use Rattle.run.proofs.Rows.{row-drop, row-length}
 
 -- ---- views
-
--- k words on, and n more
-ahead-ahead : (lo hi p k n : ℕ) → lo ≤ p → p < hi → k + n + lo ≤ hi → ahead lo hi (ahead lo hi p k) n ≡ ahead lo hi p (k + n)
-unfolding ahead
-ahead-ahead lo hi p k n from below held =
-    cases (ltb (p + k) hi)
-    (λ t. let u : p + k < hi = ltb-true _ _ t in cases (ltb (p + k + n) hi)
-    (λ e. let f : p + k + n < hi = ltb-true _ _ e in rw (t, e, lt-ltb (p + (k + n)) hi (omega arith)) (omega arith))
-    (λ e. let f : hi ≤ p + k + n = ltb-false _ _ e in rw (t, e, le-ltb (p + (k + n)) hi (omega arith)) (omega arith)))
-    (λ t. let u : hi ≤ p + k = ltb-false _ _ t in rw (t, lt-ltb (p + k - (hi - lo) + n) hi (omega arith), le-ltb (p + (k + n)) hi (omega arith)) (omega arith))
 
 passed-passed : (v : View) (k n : ℕ) → v .lo ≤ v .at → v .at < v .hi → k + n + v .lo ≤ v .hi → passedIn (passedIn v k) n ≡ passedIn v (k + n)
 passed-passed v k n from below held = λ i. record { lo = v .lo; hi = v .hi; at = ahead-ahead (v .lo) (v .hi) (v .at) k n from below held i; n = fewer i }

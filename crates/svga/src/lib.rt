@@ -11,6 +11,7 @@ ghost use Rattle.register_read.specs.Registers.{readOf};
 ghost use Rattle.device_words.specs.declared.Held.the-variants.{Device as Holds};
 ghost use Rattle.device_words.specs.Words.{onlyWellFormed};
 ghost use Rattle.ring.specs.Append.{appendOf};
+ghost use Rattle.writer.specs.Writing.{command, writeOf};
 ghost use Rattle.device_run.specs.Run.{lentBefore, lentAfter};
 ghost use Rattle.svga.specs.Calls.{packed, call, svgaMake, svgaWrite, svgaRead, runCall, svgaRun, svgaPicture};
 ghost use Rattle.svga.specs.Calls.{edgesCall, edgeWords, edgesHeld, svgaOffscreen, fenceHeld, svgaFence, passedHeld, svgaPassed};
@@ -282,4 +283,20 @@ pub extern "C" fn svga_append(ring: &mut [u32], word: u32) -> u32
 {
     let answer = ring::append(ring, word);
     ring::append_number(answer)
+}
+
+// A whole command, appended as a guest does, or nothing: its number and arguments, its pixels, its data.
+// Rules out: a part of a command appended; NEXT_CMD moved by a command that is refused; pixels taken for data.
+#[no_mangle]
+pub extern "C" fn svga_append_command(
+    ring: &mut [u32],
+    head: &[u32],
+    pixels: &[u32],
+    bytes: &[u8],
+) -> u32
+    ensures { λ r. ⌜ record { answer = r; ring = now (ring .exit) }
+        ≡ writeOf (now (ring .entry)) (command (now (head .entry)) (now (pixels .entry)) (now (bytes .entry))) ⌝ }
+{
+    let answer = writer::write(ring, head, pixels, bytes);
+    writer::writer_number(answer)
 }

@@ -24,7 +24,7 @@ use Rattle.device_words.specs.Words.{wordsOf, deviceFrom, same, spelledIn, held
 use Rattle.device_words.proofs.RoundTrip.{device-back, read-back, held-words}
 use Rattle.svga.specs.Calls.{svgaMake, writeHeld, svgaWrite, readHeld, svgaRead, runHeld, svgaRun, pictureHeld, svgaPicture}
 use Rattle.svga.specs.Calls.{edgesHeld, svgaOffscreen, fenceHeld, svgaFence, passedHeld, svgaPassed}
-use Rattle.history.specs.Calls.{Call, make, write, read, run, append, picture, offscreen, fence, passed, lend, perform}
+use Rattle.history.specs.Calls.{Call, make, write, read, run, append, submit, picture, offscreen, fence, passed, lend, perform}
 use Rattle.history.specs.Harm.{among}
 use Rattle.history.proofs.KeptByRun.{run-well-formed}
 use Rattle.history.proofs.NoHarm.{run-bounded}
@@ -90,6 +90,7 @@ as-adapter (run budget) h b a there =
     let o = runOf (deviceFrom (h .device)) (h .lent) budget in
     rw (whole h there, there, answer-unpacked _ _ v, value-unpacked (o .answer) _ v, device-back (o .device))
 as-adapter (append word) h b a l = refl
+as-adapter (submit c) h b a l = refl
 as-adapter picture h b a there = rw (whole h there, there)
 as-adapter offscreen h b a l = rw (whole h (l .0), l .0, eq-eqb _ _ (l .1))
 as-adapter fence h b a there =
@@ -134,6 +135,7 @@ lends-or-away (run budget) h =
     (λ n e. inr (rw (n, e) (value-0 (run budget) h 22 (omega arith) refl)))
     inl
 lends-or-away (append word) h = inl tt
+lends-or-away (submit c) h = inl tt
 lends-or-away picture h =
     by-words (h .device)
     (λ f. inr (rw f (no-value picture h 20 (omega arith) refl)))
@@ -177,6 +179,7 @@ still-held (run budget) h there =
     let m = held-by h there .is-well-formed in
     rw (whole h there, there) (words-hold _ (run-well-formed (deviceFrom (h .device)) (h .lent) budget m))
 still-held (append word) h there = there
+still-held (submit c) h there = there
 still-held picture h there = there
 still-held offscreen h there = there
 still-held fence h there = there

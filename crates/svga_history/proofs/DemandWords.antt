@@ -16,7 +16,7 @@ use Rattle.device.specs.Device.{conditionOf, maxWidth, maxHeight, sizesGood, fr
 use Rattle.device.specs.Making.{madeOf}
 use Rattle.device.proofs.Kept.{fresh-well-formed}
 use Rattle.svga.specs.Calls.{svgaMake}
-use Rattle.history.specs.Calls.{Call, make, write, read, run, append, picture, offscreen, fence, passed, lend, History, performAll}
+use Rattle.history.specs.Calls.{Call, make, write, read, run, append, submit, picture, offscreen, fence, passed, lend, History, performAll}
 use Rattle.history.specs.Demand.{isStart, callOf, Shown}
 use Rattle.history.proofs.Laws.{demand-3}
 use Rattle.history.specs.Keeping.{starting, answers}
@@ -58,6 +58,7 @@ edges-count (write index value) before after e = rw e
 edges-count (read index) before after e = rw e
 edges-count (run budget) before after e = rw e
 edges-count (append word) before after e = rw e
+edges-count (submit c) before after e = rw e
 edges-count picture before after e = rw e
 edges-count offscreen before after e = e
 edges-count fence before after e = rw e
@@ -71,6 +72,7 @@ held-lends (write index value) h there four = there
 held-lends (read index) h there four = there
 held-lends (run budget) h there four = there
 held-lends (append word) h there four = tt
+held-lends (submit c) h there four = tt
 held-lends picture h there four = there
 held-lends offscreen h there four = (there, four)
 held-lends fence h there four = there

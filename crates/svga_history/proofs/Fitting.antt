@@ -2,7 +2,7 @@
 -- Assumes nothing.
 use mathlib.Core.Path.{_≡_}
 use mathlib.Core.Bool.{Bool, true, false}
-use mathlib.Core.List.{List, [], _∷_}
+use mathlib.Core.List.{List, [], _∷_, _++_}
 use Prim.Native.Nat.{ℕ, zero, suc, _+_, _≤_, _<_}
 use native.Mathlib.Omega.{arith}
 use lib.Dec.{eqb, leb, ltb}
@@ -10,6 +10,7 @@ use lib.ListN.{replicate, set, drop, getD}
 use lib.Seq.{getD-drop}
 use borrow.Author.Tests.{leb-true, ltb-true}
 use borrow.Table.Steps.{cases}
+use Rattle.geometry.specs.Pixels.{tabulate}
 use Rattle.geometry.proofs.Tests.{both}
 use Rattle.cursor.specs.declared.Shape.{Shape}
 use Rattle.cursor.specs.declared.Defined.{Defined}
@@ -60,7 +61,7 @@ one-more {x} {l} p q = record { below = at }
     at (suc i) = q .below i
 
 -- all but the first
-behind : {x : ℕ} {l : List ℕ} → AreWords (x ∷ l) → AreWords l
+pub behind : {x : ℕ} {l : List ℕ} → AreWords (x ∷ l) → AreWords l
 behind a = record { below = λ i. a .below (suc i) }
 
 pub set-words : (l : List ℕ) (i v : ℕ) → v < 4294967296 → AreWords l → AreWords (set l i v)
@@ -70,6 +71,15 @@ set-words (x ∷ l) (suc i) v h a = one-more (a .below 0) (set-words l i v h (be
 
 pub drop-words : (n : ℕ) (l : List ℕ) → AreWords l → AreWords (drop n l)
 drop-words n l a = record { below = λ i. rw (getD-drop n l i 0) (a .below (n + i)) }
+
+pub join-words : (l m : List ℕ) → AreWords l → AreWords m → AreWords (l ++ m)
+join-words [] m a b = b
+join-words (x ∷ l) m a b = one-more (a .below 0) (join-words l m (behind a) b)
+
+pub tabulate-words : (n : ℕ) (f : ℕ → ℕ) → ((k : ℕ) → f k < 4294967296) → AreWords (tabulate n f)
+unfolding tabulate
+tabulate-words zero f h = no-words
+tabulate-words (suc n) f h = one-more (h 0) (tabulate-words n (λ k. f (suc k)) (λ k. h (suc k)))
 
 pub zero-words : (n : ℕ) → AreWords (replicate n 0)
 zero-words zero = no-words

@@ -16,7 +16,7 @@ use Rattle.device.specs.Making.{madeOf}
 use Rattle.device_words.specs.Words.{wordsOf}
 use Rattle.device_words.proofs.RoundTrip.{words-count}
 use Rattle.svga.specs.Calls.{svgaMake, writeHeld, svgaWrite, runHeld, svgaRun, edgesHeld, svgaOffscreen}
-use Rattle.history.specs.Calls.{World, Call, make, write, read, run, append, picture, offscreen, fence, passed, lend, CallOutcome, perform}
+use Rattle.history.specs.Calls.{World, Call, make, write, read, run, append, submit, picture, offscreen, fence, passed, lend, CallOutcome, perform}
 use Rattle.history.specs.Harm.{row, among, OnlyNamed}
 use Rattle.history.proofs.NoHarm.{safe}
 use Rattle.svga_history.specs.WordCalls.{Host, host, worldIn, HoldsDevice, performWords, HostStep, call, put, stepped}
@@ -47,6 +47,7 @@ rows (write index value) = cases (eqb index 20) (λ t. rw t) (λ f. rw f)
 rows (read index) = refl
 rows (run budget) = refl
 rows (append word) = refl
+rows (submit c) = refl
 rows picture = refl
 rows offscreen = refl
 rows fence = refl
@@ -84,6 +85,10 @@ refused-held : (c : Call) (h : Host) → HoldsDevice h → performWords c h .hos
     → WordCall c → WordHost h → Lends c h → 20 ≤ performWords c h .answer → performWords c h .host ≡ h
 refused-held c h there e b a l n = same-host h (performWords c h .host) there (still-held c h there) (refused-world c h b a l n) e
 
+-- the host with the memories of a world
+abbrev lentBy : Host → World → Host
+lentBy h w = host (h .device) (w .lent) (h .output) (h .edges)
+
 refused-stays : (c : Call) (h : Host) → WordCall c → WordHost h → Lends c h → 20 ≤ performWords c h .answer → performWords c h .host ≡ h
 unfolding performWords perform svgaMake madeOf
 refused-stays (make memory pixels) h b a l n =
@@ -94,8 +99,8 @@ refused-stays (make memory pixels) h b a l n =
 refused-stays (write index value) h b a l n = refused-held (write index value) h l refl b a l n
 refused-stays (read index) h b a l n = refl
 refused-stays (run budget) h b a l n = refused-held (run budget) h l refl b a l n
-refused-stays (append word) h b a l n =
-    ap {B = Host} (λ (w : World). host (h .device) (w .lent) (h .output) (h .edges)) (safe (append word) (worldIn h) .refused n)
+refused-stays (append word) h b a l n = ap (lentBy h) (safe (append word) (worldIn h) .refused n)
+refused-stays (submit c) h b a l n = ap (lentBy h) (safe (submit c) (worldIn h) .refused n)
 refused-stays picture h b a l n = refused-held picture h l refl b a l n
 refused-stays offscreen h b a l n = absurd (omega (arith, same-answer offscreen h b a l))
 refused-stays fence h b a l n = refl
@@ -116,6 +121,7 @@ device-stays (read index) h = refl
 device-stays (run budget) h =
     by-words (h .device) (λ f. rw f) (λ n e. rw (n, e)) (λ there. rw (whole h there, there) (words-count _ ∙ sym (held-by h there .count)))
 device-stays (append word) h = refl
+device-stays (submit c) h = refl
 device-stays picture h = refl
 device-stays offscreen h = refl
 device-stays fence h = refl
@@ -129,6 +135,7 @@ edges-stay (write index value) h = refl
 edges-stay (read index) h = refl
 edges-stay (run budget) h = refl
 edges-stay (append word) h = refl
+edges-stay (submit c) h = refl
 edges-stay picture h = refl
 edges-stay offscreen h =
     cases (eqb (length (h .edges)) 4)

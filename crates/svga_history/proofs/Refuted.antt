@@ -9,12 +9,13 @@ use native.Mathlib.Omega.{arith}
 use lib.ListN.{length, getD, replicate}
 use Rattle.ring.specs.declared.Ring.{Ring}
 use Rattle.ring.specs.Acceptance.{offsetUsable, boundsUsable, usable}
+use Rattle.writer.specs.Writing.{Command}
 use Rattle.device.specs.declared.Condition.the-variants.{Running}
 use Rattle.device.specs.Device.{sizesGood, wellFormed}
 use Rattle.device_run.specs.Run.{Lent, lent}
 use Rattle.device_words.specs.declared.Held.the-variants.{Device as Holds, Nothing}
 use Rattle.device_words.specs.Words.{definedParts, conditionParts, wordsOf, definedFrom, conditionFrom, deviceFrom, spelledIn, heldIn}
-use Rattle.history.specs.Calls.{write, read, run, fence, append}
+use Rattle.history.specs.Calls.{write, read, run, fence, append, submit}
 use Rattle.history.specs.Demand.{isStart}
 use Rattle.history.specs.Keeping.{starting}
 use Rattle.svga_history.specs.WordCalls.{Host, host, worldIn, HoldsDevice, outcome, performWordsAll, WordHost}
@@ -42,6 +43,10 @@ too-few h n there = omega (arith, held-by h there .count)
 -- a fence that answers 21
 pub no-fence-21 : (h z : Host) (values : List ℕ) → SafeWords fence h (outcome 21 values z) → ⊥
 no-fence-21 h z values s = true≢false (sym (s .answered))
+
+-- a write of a command that answers 1, as an append does
+pub no-submit-1 : (c : Command) (h z : Host) (values : List ℕ) → SafeWords (submit c) h (outcome 1 values z) → ⊥
+no-submit-1 c h z values s = true≢false (sym (s .answered))
 
 -- a refused write that changes a word
 pub no-change : (h z : Host) (values : List ℕ) → (z ≡ h → ⊥) → SafeWords (write 2 5000) h (outcome 32 values z) → ⊥

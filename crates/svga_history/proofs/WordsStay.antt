@@ -2,16 +2,18 @@
 -- Assumes nothing.
 use mathlib.Core.Path.{_≡_}
 use mathlib.Core.Bool.{true}
-use mathlib.Core.List.{List}
-use Prim.Native.Nat.{ℕ, _+_, _/_, _<_}
+use mathlib.Core.List.{List, [], _∷_}
+use Prim.Native.Nat.{ℕ, _+_, _*_, _/_, _<_}
 use native.Mathlib.Omega.{arith}
 use lib.Dec.{eqb}
-use lib.ListN.{length}
+use lib.ListN.{length, getD}
 use borrow.Table.Steps.{cases}
 use Rattle.geometry.proofs.Tests.{both}
 use Rattle.ring.specs.Acceptance.{minOf, maxOf, nextOf, usable}
 use Rattle.ring.specs.Append.{movedOn, canAppend, appendTo, appendOf}
 use Rattle.ring.proofs.Laws.{usable-when}
+use Rattle.writer.specs.Writing.{Command, dataWords, commandWords, appendAll, Written, writeOf}
+use Rattle.writer.proofs.Appending.{by-write}
 use Rattle.register.specs.declared.Writable.{Writable}
 use Rattle.register.specs.declared.Writable.the-variants.{Id, Enable, Width, Height, ConfigDone, Sync, GuestId, CursorId, CursorX, CursorY, CursorOn}
 use Rattle.device.specs.declared.Device.{Device}
@@ -23,9 +25,9 @@ use Rattle.register_write.specs.Registers.{isId, idWritten, enableWritten, sync
 use Rattle.register_write.proofs.Kept.{Went, outside, effected, other-length, unusable, accepts, went, by-written, written-well-formed, marks-kept}
 use Rattle.device_words.specs.Words.{wordsOf, deviceFrom}
 use Rattle.svga.specs.Calls.{svgaMake, writeHeld, svgaWrite, runHeld, svgaRun}
-use Rattle.history.specs.Calls.{Call, make, write, read, run, append, picture, offscreen, fence, passed, lend}
+use Rattle.history.specs.Calls.{Call, make, write, read, run, append, submit, picture, offscreen, fence, passed, lend}
 use Rattle.svga_history.specs.WordCalls.{Host, performWords, AreWords, WordHost, WordCall}
-use Rattle.svga_history.proofs.Fitting.{set-words, Fits, words-fit, words-marks, fits-words}
+use Rattle.svga_history.proofs.Fitting.{behind, set-words, join-words, tabulate-words, Fits, words-fit, words-marks, fits-words}
 use Rattle.svga_history.proofs.FittingRun.{run-words}
 use Rattle.svga_history.proofs.AsAdapter.{by-words, held-by, whole}
 
@@ -74,7 +76,7 @@ written-words w ring index v a low m =
     let d = deviceFrom w in
     fits-words _ (written-well-formed d ring index v m) (written-parts d v low (words-fit w a) ring index) (rw (marks-kept d ring index v) (words-marks w a))
 
--- ---- appends
+-- ---- appends and writes of commands
 
 moved-word : (ring : List ℕ) → AreWords ring → usable ring ≡ true → movedOn (minOf ring) (maxOf ring) (nextOf ring) < 4294967296
 unfolding movedOn
@@ -84,17 +86,38 @@ moved-word ring a u =
     let high = a .below 1 in
     cases (eqb (nextOf ring + 4) (maxOf ring)) (λ t. rw t low) (λ f. rw f (omega arith))
 
-appended-words : (ring : List ℕ) (word : ℕ) → AreWords ring → word < 4294967296 → AreWords (appendOf ring word .ring)
-unfolding appendOf appendTo canAppend
+appended-words : (ring : List ℕ) (word : ℕ) → AreWords ring → word < 4294967296 → AreWords (appendTo ring word)
+unfolding appendTo canAppend
 appended-words ring word a low =
     cases (canAppend ring)
     (λ t. let u = both (usable ring) _ t .0 in rw t (set-words _ 2 _ (moved-word ring a u) (set-words ring (nextOf ring / 4) word low a)))
     (λ f. rw f a)
 
+appended-all-words : (ring words : List ℕ) → AreWords ring → AreWords words → AreWords (appendAll ring words)
+unfolding appendAll
+appended-all-words ring [] a b = a
+appended-all-words ring (x ∷ words) a b = appended-all-words (appendTo ring x) words (appended-words ring x a (b .below 0)) (behind b)
+
+-- four bytes are a word
+data-words : (bytes : List ℕ) → ((i : ℕ) → getD bytes i 0 < 256) → AreWords (dataWords bytes)
+unfolding dataWords
+data-words bytes low =
+    tabulate-words _ _ (λ i. omega (arith, low (4 * i), low (4 * i + 1), low (4 * i + 2), low (4 * i + 3)))
+
+-- a write leaves them where its command is words and bytes
+submitted-words : (ring : List ℕ) (c : Command) → AreWords ring → WordCall (submit c) → AreWords (writeOf ring c .ring)
+unfolding commandWords
+submitted-words ring c a b =
+    by-write ring c (λ (o : Written). AreWords (o .ring))
+    (λ answer high. a)
+    (λ f.
+    appended-all-words ring _ a
+    (join-words (c .head) _ (b .0) (join-words (c .pixels) _ (b .1) (data-words (c .bytes) (b .2)))))
+
 -- ---- every call
 
 pub words-stay : (c : Call) (h : Host) → WordCall c → WordHost h → WordHost (performWords c h .host)
-unfolding performWords svgaMake madeOf svgaWrite writeHeld svgaRun runHeld
+unfolding performWords svgaMake madeOf svgaWrite writeHeld svgaRun runHeld appendOf
 words-stay (make memory pixels) h b a = record {
   device =
       cases (eqb (length (h .device)) 64)
@@ -121,6 +144,7 @@ words-stay (run budget) h b a =
     let l = run-words (deviceFrom (h .device)) (h .lent) budget fits marks (a .ring) (held-by h there .is-well-formed) in
     rw (whole h there, there) (record { device = l .0; ring = l .1 }))
 words-stay (append word) h b a = record { device = a .device; ring = appended-words (h .lent .ring) word (a .ring) b }
+words-stay (submit c) h b a = record { device = a .device; ring = submitted-words (h .lent .ring) c (a .ring) b }
 words-stay picture h b a = record { device = a .device; ring = a .ring }
 words-stay offscreen h b a = record { device = a .device; ring = a .ring }
 words-stay fence h b a = a

@@ -6,11 +6,13 @@ use mathlib.Core.List.{List, [], _∷_, map}
 use lib.Dec.{eqb}
 use lib.ListN.{getD}
 use Rattle.ring.specs.Append.{appendOf}
+use Rattle.writer.specs.Writing.{writeOf}
+use Rattle.writer.specs.Reading.{InBytes}
 use Rattle.device_run.specs.Run.{Lent, withRing}
 use Rattle.device_words.specs.declared.Held.the-variants.{Device as Holds}
 use Rattle.device_words.specs.Words.{deviceFrom, heldIn}
 use Rattle.svga.specs.Calls.{svgaMake, svgaWrite, svgaRead, svgaRun, svgaPicture, svgaOffscreen, svgaFence, svgaPassed}
-use Rattle.history.specs.Calls.{World, Call, make, write, read, run, append, picture, offscreen, fence, passed, lend, CallOutcome, History}
+use Rattle.history.specs.Calls.{World, Call, make, write, read, run, append, submit, picture, offscreen, fence, passed, lend, CallOutcome, History}
 
 -- ---- packed results
 
@@ -65,6 +67,8 @@ performWords (run budget) h =
     outcome (answerIn (o .result)) (valueIn (o .result) ∷ []) (host (o .device) (o .lent) (h .output) (h .edges))
 performWords (append word) h =
     let o = appendOf (h .lent .ring) word in outcome (o .answer) [] (host (h .device) (withRing (h .lent) (o .ring)) (h .output) (h .edges))
+performWords (submit c) h =
+    let o = writeOf (h .lent .ring) c in outcome (o .answer) [] (host (h .device) (withRing (h .lent) (o .ring)) (h .output) (h .edges))
 performWords picture h =
     let o = svgaPicture (h .device) (h .lent .screen) (h .lent .cursor) (h .output) in
     outcome (o .answer) [] (host (h .device) (h .lent) (o .output) (h .edges))
@@ -121,6 +125,7 @@ WordCall (write index value) = value < 4294967296
 WordCall (read index) = Unit {0}
 WordCall (run budget) = budget < 4294967296
 WordCall (append word) = word < 4294967296
+WordCall (submit c) = AreWords (c .head) × AreWords (c .pixels) × InBytes c
 WordCall picture = Unit {0}
 WordCall offscreen = Unit {0}
 WordCall fence = Unit {0}

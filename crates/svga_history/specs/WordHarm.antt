@@ -5,7 +5,7 @@ use mathlib.Core.Path.{_≡_}
 use mathlib.Core.Bool.{true}
 use mathlib.Core.List.{List, [], _∷_}
 use lib.ListN.{length, getD}
-use Rattle.history.specs.Calls.{Call, make, write, read, run, append, picture, offscreen, fence, passed, lend}
+use Rattle.history.specs.Calls.{Call, make, write, read, run, append, submit, picture, offscreen, fence, passed, lend}
 use Rattle.history.specs.Harm.{among, OnlyNamed}
 use Rattle.svga_history.specs.WordCalls.{Host, worldIn, HoldsDevice, WordOutcome, performWords, asCall, HostStep, call, put, stepped, WordHost}
 
@@ -19,6 +19,7 @@ wordRow (write index value) = 0 ∷ 20 ∷ 30 ∷ 31 ∷ 32 ∷ 33 ∷ []
 wordRow (read index) = 0 ∷ 20 ∷ 30 ∷ []
 wordRow (run budget) = 0 ∷ 1 ∷ 2 ∷ 10 ∷ 11 ∷ 12 ∷ 13 ∷ 20 ∷ 21 ∷ 22 ∷ 23 ∷ 24 ∷ []
 wordRow (append word) = 0 ∷ 1 ∷ []
+wordRow (submit c) = 0 ∷ 20 ∷ 33 ∷ 40 ∷ 41 ∷ []
 wordRow picture = 0 ∷ 20 ∷ 24 ∷ []
 wordRow offscreen = 0 ∷ 20 ∷ 30 ∷ []
 wordRow fence = 0 ∷ 20 ∷ 30 ∷ []
@@ -34,6 +35,7 @@ Lends (write index value) h = HoldsDevice h
 Lends (read index) h = HoldsDevice h
 Lends (run budget) h = HoldsDevice h
 Lends (append word) h = Unit {0}
+Lends (submit c) h = Unit {0}
 Lends picture h = HoldsDevice h
 Lends offscreen h = HoldsDevice h × (length (h .edges) ≡ 4)
 Lends fence h = HoldsDevice h
@@ -54,6 +56,7 @@ DeviceStays (write index value) before after = length after ≡ length before
 DeviceStays (read index) before after = after ≡ before
 DeviceStays (run budget) before after = length after ≡ length before
 DeviceStays (append word) before after = after ≡ before
+DeviceStays (submit c) before after = after ≡ before
 DeviceStays picture before after = after ≡ before
 DeviceStays offscreen before after = after ≡ before
 DeviceStays fence before after = after ≡ before
@@ -67,6 +70,7 @@ EdgesStay (write index value) before after = after ≡ before
 EdgesStay (read index) before after = after ≡ before
 EdgesStay (run budget) before after = after ≡ before
 EdgesStay (append word) before after = after ≡ before
+EdgesStay (submit c) before after = after ≡ before
 EdgesStay picture before after = after ≡ before
 EdgesStay offscreen before after = length after ≡ length before
 EdgesStay fence before after = after ≡ before

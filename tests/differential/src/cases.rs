@@ -1,10 +1,12 @@
-//! Document 01's "Numbers to hold against it" and its console example, and numbers for 02's P1, on the library and the model.
+//! Document 01's "Numbers to hold against it" and its console example, and numbers for 02's P1 and P2, on the library and the model.
 
 use crate::alarm;
 use crate::counts::Counts;
 use crate::model::Model;
 use crate::pair::Pair;
 use crate::step::Step;
+
+mod writer;
 
 const MEMORY: u32 = 10_256;
 const MAX: u32 = MEMORY;
@@ -231,6 +233,8 @@ pub fn hold(exact: bool) -> bool {
         let found = b.posting(28, 40, 28, words);
         b.holds("P1, what a run writes", found == (answer, changed, word_6));
     }
+
+    writer::hold(&mut b);
 
     for line in &b.failed {
         println!("failed: the documents' numbers: {line}");

@@ -6,10 +6,14 @@ use crate::model::run::{Command, Executed};
 use crate::pair::{Answered, Pair};
 use crate::step::Step;
 
+mod writer;
+
+use writer::Submitted;
+
 /// Sequences that the minima are for.
 pub const SEQUENCES: u64 = 20_000;
 
-const CALLS: [&str; 9] = [
+const CALLS: [&str; 10] = [
     "svga_make",
     "svga_write",
     "svga_read",
@@ -19,10 +23,11 @@ const CALLS: [&str; 9] = [
     "svga_fence",
     "svga_fence_passed",
     "svga_append",
+    "svga_append_command",
 ];
 
 /// The answers of each call, and how often each is required. No other answer may be seen.
-const ANSWERS: [&[(usize, u64)]; 9] = [
+const ANSWERS: [&[(usize, u64)]; CALLS.len()] = [
     &[(0, 20_000), (20, 600), (34, 2000)],
     &[(0, 500_000), (20, 3000), (30, 10_000), (31, 30_000), (32, 6000), (33, 15_000)],
     &[(0, 3000), (20, 40), (30, 5000)],
@@ -45,6 +50,7 @@ const ANSWERS: [&[(usize, u64)]; 9] = [
     &[(0, 8000), (20, 40), (30, 700)],
     &[(0, 8000), (20, 40), (30, 700)],
     &[(0, 800_000), (1, 35_000)],
+    &[(0, 140_000), (20, 15_000), (33, 14_000), (40, 20_000), (41, 35_000)],
 ];
 
 const COMMANDS: [&str; 9] =
@@ -104,6 +110,41 @@ events! {
     KeptAgainstWord0: "runs that executed a FENCE and posted none with ring word 0 at 28 or more", 1000;
     NotPosted: "runs with MIN 28 or more that executed commands and no FENCE", 100_000;
     PostedThenFault: "faults after a posted fence of the same run", 3000;
+    SubmitExact: "submitted commands that took every free word", 12_000;
+    SubmitOneShort: "submitted commands refused for one word", 12_000;
+    SubmitByWord3: "submitted commands taken or refused by ring word 3, and not by the device's STOP", 2000;
+    SubmitWrapInHead: "submitted commands with the ring's end in their head", 8000;
+    SubmitWrapBehindHead: "submitted commands with the ring's end behind their head", 600;
+    SubmitWrapInPixels: "submitted commands with the ring's end in their pixels", 1500;
+    SubmitWrapInData: "submitted commands with the ring's end in their data", 12_000;
+    SubmitToEnd: "submitted commands that moved NEXT_CMD to MIN", 3000;
+    SubmitLargest: "submitted commands of 2,559 words in a ring of 2,560", 3000;
+    SubmitPadded: "submitted data with padding", 18_000;
+    SubmitExecuted: "submitted commands executed", 100_000;
+    SubmitFreed: "submitted commands in words that a run had freed", 30_000;
+    SubmitOtherLength: "submitted commands taken with a ring of another length than the device's", 3000;
+    SubmitRingMissing: "33 by fewer than four ring words", 7000;
+    SubmitRingUnusable: "33 by unusable ring words", 7000;
+    SubmitRingShort: "33 by a ring that is lent shorter than MAX", 5000;
+    SubmitRingBeforeCommand: "33 by the writer, though the number is not offered", 900;
+    SubmitNoWords: "41 by no words at all", 4000;
+    SubmitUnknown: "41 by a number not offered", 8000;
+    SubmitFewArguments: "41 by too few arguments", 7000;
+    SubmitManyArguments: "41 by too many arguments", 7000;
+    SubmitBadCursor: "41 by a bad cursor head", 1000;
+    SubmitBadOperation: "41 by a raster operation above 15", 1800;
+    SubmitTooLong: "41 by a command longer than the ring carries", 4500;
+    SubmitWholeRing: "41 by a command of as many words as the ring holds", 3000;
+    SubmitCommandBeforeLent: "41, though the lent pixels or data are wrong in number", 10_000;
+    SubmitPixelMore: "20 by one pixel more", 400;
+    SubmitPixelFewer: "20 by one pixel fewer", 400;
+    SubmitByteMore: "20 by one byte more", 800;
+    SubmitByteFewer: "20 by one byte fewer", 500;
+    SubmitPixelsWithEscape: "20 by pixels with an ESCAPE", 600;
+    SubmitBytesWithCursor: "20 by data with a cursor", 800;
+    SubmitPixelsWithNone: "20 by pixels with a command that has none", 3000;
+    SubmitBytesWithNone: "20 by data with a command that has none", 6000;
+    SubmitLentBeforeRoom: "20 by the writer, though there is too little room", 2500;
     FencePassed: "fences passed", 4000;
     FenceNotPassed: "fences not passed", 4000;
     LengthDevice: "20 by the device's length", 8000;
@@ -124,7 +165,7 @@ const MALFORMED_MINIMUM: u64 = 700;
 pub struct Counts {
     pub sequences: u64,
     pub calls: u64,
-    answers: [[u64; 64]; 9],
+    answers: [[u64; 64]; CALLS.len()],
     commands: [u64; 9],
     /// Painting commands that a mode's edge cut, and those that painted nothing.
     cut: [u64; 9],
@@ -137,7 +178,8 @@ pub struct Counts {
     /// Fences by the remembered MIN, as `MINS` has them, and those of them that straddled the ring's end.
     fences: [u64; MINS.len()],
     straddled_fences: [u64; MINS.len()],
-    malformed: [u64; 9],
+    malformed: [u64; CALLS.len()],
+    submitted: Submitted,
     events: [u64; EVENTS.len()],
     /// The last run waited for the rest of a command.
     waiting: bool,
@@ -154,6 +196,7 @@ fn call_number(step: &Step) -> usize {
         Step::Fence { .. } => 6,
         Step::FencePassed { .. } => 7,
         Step::Append { .. } => 8,
+        Step::Submit { .. } => 9,
         _ => unreachable!("no call"),
     }
 }
@@ -169,7 +212,7 @@ impl Counts {
         Counts {
             sequences: 0,
             calls: 0,
-            answers: [[0; 64]; 9],
+            answers: [[0; 64]; CALLS.len()],
             commands: [0; 9],
             cut: [0; 9],
             empty: [0; 9],
@@ -179,7 +222,8 @@ impl Counts {
             cursor_heights: [0; 65],
             fences: [0; MINS.len()],
             straddled_fences: [0; MINS.len()],
-            malformed: [0; 9],
+            malformed: [0; CALLS.len()],
+            submitted: Submitted::new(),
             events: [0; EVENTS.len()],
             waiting: false,
         }
@@ -188,6 +232,7 @@ impl Counts {
     pub fn begin_sequence(&mut self) {
         self.sequences += 1;
         self.waiting = false;
+        self.submitted.begin_sequence();
     }
 
     fn event(&mut self, event: Event, happened: bool) {
@@ -208,7 +253,7 @@ impl Counts {
         let call = call_number(step);
         self.answers[call][answered.answer as usize] += 1;
         let device_length = match step {
-            Step::Append { .. } => DEVICE_WORDS,
+            Step::Append { .. } | Step::Submit { .. } => DEVICE_WORDS,
             _ => step.lengths().map_or(DEVICE_WORDS, |lengths| lengths.device),
         };
         self.event(Event::LengthDevice, device_length != DEVICE_WORDS);
@@ -217,6 +262,9 @@ impl Counts {
         }
         if let Step::Append { lengths, .. } = step {
             return self.append(answered, before, pair.model.usable_ring(pair.expected.ring.first(lengths.ring)));
+        }
+        if let Step::Submit { lengths, submission } = step {
+            return self.submit(submission, answered.answer, lengths.ring, before);
         }
         let Some(device) = &before.device else {
             self.malformed[call] += 1;
@@ -227,6 +275,9 @@ impl Counts {
                 self.event(Event::LengthRing, answered.answer == 20 && lengths.ring as u64 * 4 != device.memory);
                 let faulted = matches!(device.condition, Condition::Faulted(_));
                 self.event(Event::FaultCleared, faulted && answered.answer == 0);
+                if answered.answer == 0 {
+                    self.submitted.ring_accepted();
+                }
             }
             Step::Run { lengths, budget } => {
                 if answered.answer == 20 {
@@ -282,6 +333,7 @@ impl Counts {
             let inside = ring.min <= next && next < ring.max;
             self.event(Event::FullRing, inside && (next + 4 - ring.min) % size == ring.stop - ring.min);
             self.fences(ring.min, min, answered.answer, &pair.model.executed);
+            pair.model.executed.iter().for_each(|executed| self.consumed(executed, &ring));
         }
         if let Some(after) = pair.device() {
             self.event(Event::BusyKept, device.busy && after.busy);
@@ -414,6 +466,9 @@ impl Counts {
         let by_min = |counts: &[u64]| MINS.iter().zip(counts).map(|(min, count)| format!("{min}: {count}")).collect::<Vec<_>>().join("  ");
         println!("  FENCE executed by MIN ({FENCE_MINIMUM}):  {}", by_min(&self.fences));
         println!("    .. over the ring's end ({STRADDLED_FENCE_MINIMUM}):  {}", by_min(&self.straddled_fences));
+        for (text, minimum, counts) in self.submitted.rows() {
+            println!("  {text} ({minimum}):  {}", numbers(counts));
+        }
         let malformed: Vec<String> = self.malformed_calls().map(|(name, count)| format!("{name} {count}")).collect();
         println!("  calls on words that are no device ({MALFORMED_MINIMUM}):  {}", malformed.join("  "));
         for ((text, minimum), count) in EVENTS.iter().zip(&self.events) {
@@ -459,6 +514,11 @@ impl Counts {
         for (place, min) in MINS.iter().enumerate() {
             require(format!("FENCE executed with MIN {min}"), self.fences[place], FENCE_MINIMUM);
             require(format!("FENCE over the ring's end with MIN {min}"), self.straddled_fences[place], STRADDLED_FENCE_MINIMUM);
+        }
+        for (text, minimum, counts) in self.submitted.rows() {
+            for (place, &count) in counts.iter().enumerate() {
+                require(format!("{text}, number {} of the row", place + 1), count, minimum);
+            }
         }
         for (name, count) in self.malformed_calls() {
             require(format!("{name} on words that are no device"), count, MALFORMED_MINIMUM);

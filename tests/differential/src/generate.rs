@@ -6,6 +6,8 @@ use crate::random::Random;
 use crate::step::{Lengths, Step};
 use std::collections::VecDeque;
 
+mod submit;
+
 const TOP: u32 = u32::MAX;
 const HALF: u32 = 1 << 31;
 
@@ -253,7 +255,7 @@ impl Generator {
 
     /// Any call at all.
     fn any_call(&mut self, pair: &Pair) {
-        match self.random.below(10) {
+        match self.random.below(11) {
             0..=1 => {
                 let (index, value) = (self.random.between(0, 30) as u32, self.value());
                 self.write(pair, index, value);
@@ -264,6 +266,7 @@ impl Generator {
                 let word = self.value();
                 self.append(pair, word);
             }
+            8 => self.submit_any(pair),
             _ => self.small_question(pair),
         }
     }
@@ -291,7 +294,7 @@ impl Generator {
         if self.large && self.random.chance(1, 2) {
             return self.commands(pair, device);
         }
-        match self.random.below(100) {
+        match self.random.below(106) {
             0..=47 => self.commands(pair, device),
             48..=49 => self.fences(pair, device),
             50..=56 => self.run(pair),
@@ -313,6 +316,7 @@ impl Generator {
                 self.push(Step::Framebuffer { fill });
             }
             97 => self.configure(pair, device),
+            100..=105 => self.submits(pair, device),
             98 => match self.random.below(3) {
                 0 => self.push(Step::Make { lengths: pair.right_lengths(), memory: device.memory as u32, pixels: device.pixels as u32 }),
                 1 => self.make_again(pair),
@@ -441,9 +445,13 @@ impl Generator {
             _ => self.spoil_ring(&mut words, device.memory as u32),
         }
         self.push(Step::Ring { place: 0, words: words.to_vec() });
-        match self.random.below(4) {
+        match self.random.below(5) {
             0 => self.append(pair, 30),
             1 => self.write(pair, 20, 1),
+            2 => {
+                let words = self.fence(device);
+                self.submit(pair, &words);
+            }
             _ => {}
         }
         self.run(pair);
@@ -658,6 +666,7 @@ impl Generator {
                         self.append(pair, word);
                     }
                 }
+                5..=7 => self.submit(pair, &words),
                 _ => self.push(Step::Put { words }),
             }
             if self.random.chance(1, 6) {
@@ -724,36 +733,52 @@ impl Generator {
     }
 
     fn command(&mut self, device: &Device, seen: &Seen) -> Vec<u32> {
+        let number = match self.random.below(100) {
+            0..=9 => 1,
+            10..=15 => 25,
+            16..=27 => 2,
+            28..=41 => 13,
+            42..=53 => 3,
+            54..=79 => 14,
+            80..=86 => 30,
+            87..=93 => 22,
+            94..=97 => 33,
+            _ => return self.foreign(),
+        };
+        self.command_of(number, device, seen)
+    }
+
+    /// A command of an offered number.
+    fn command_of(&mut self, number: u32, device: &Device, seen: &Seen) -> Vec<u32> {
         let (width, height) = (device.width as u32, device.height as u32);
-        match self.random.below(100) {
-            0..=9 => {
+        match number {
+            1 => {
                 let rect = self.rect(width, height);
                 [&[1][..], &rect].concat()
             }
-            10..=15 => {
+            25 => {
                 let rect = self.rect(width, height);
                 let reason = self.value();
                 [&[25][..], &rect, &[reason]].concat()
             }
-            16..=27 => {
+            2 => {
                 let rect = self.rect(width, height);
                 let colour = self.colour();
                 [&[2, colour][..], &rect].concat()
             }
-            28..=41 => {
+            13 => {
                 let rect = self.rect(width, height);
                 let (colour, operation) = (self.colour(), self.operation());
                 [&[13, colour][..], &rect, &[operation]].concat()
             }
-            42..=53 => [&[3][..], &self.move_of(width, height)].concat(),
-            54..=79 => {
+            3 => [&[3][..], &self.move_of(width, height)].concat(),
+            14 => {
                 let operation = self.operation();
                 [&[14][..], &self.move_of(width, height), &[operation]].concat()
             }
-            80..=86 => self.fence(device),
-            87..=93 => self.cursor(seen),
-            94..=97 => self.escape(seen),
-            _ => self.foreign(),
+            22 => self.cursor(seen),
+            33 => self.escape(seen),
+            _ => self.fence(device),
         }
     }
 

@@ -3,6 +3,7 @@
 use crate::counts::{Before, Counts};
 use crate::memory::Memory;
 use crate::model::device::{from_words, Device, CURSOR_WORDS, DEVICE_WORDS};
+use crate::model::writer::Submission;
 use crate::model::Model;
 use crate::random::Random;
 use crate::step::{Lengths, Step};
@@ -102,7 +103,7 @@ impl Pair {
     pub fn step(&mut self, step: &Step, counts: &mut Counts) -> Result<Option<Answered>, String> {
         let before = Before { device: self.device(), ring_words: self.ring_words() };
         let ours = self.model_step(step);
-        let theirs = self.library_step(step);
+        let theirs = self.library_step(step)?;
         if ours != theirs {
             let [model, library] = [ours, theirs].map(|answered| answered.unwrap_or(Answered { answer: 0, value: 0 }));
             return Err(format!(
@@ -118,6 +119,7 @@ impl Pair {
             }
         }
         self.read_all()?;
+        self.read_back(step, ours, &before)?;
         match ours {
             Some(answered) => counts.call(step, answered, &before, self),
             None => counts.between(step),
@@ -135,6 +137,17 @@ impl Pair {
             }
         }
         Ok(())
+    }
+
+    /// A submitted command that was taken stands in the ring as that command.
+    fn read_back(&self, step: &Step, answered: Option<Answered>, before: &Before) -> Result<(), String> {
+        let (Step::Submit { lengths, submission }, Some(Answered { answer: 0, .. })) = (step, answered) else {
+            return Ok(());
+        };
+        if self.model.reads_back(self.expected.ring.first(lengths.ring), before.ring_words[2], submission) {
+            return Ok(());
+        }
+        Err("the words that were appended do not read back as the command".to_string())
     }
 
     fn model_step(&mut self, step: &Step) -> Option<Answered> {
@@ -165,6 +178,10 @@ impl Pair {
             Step::Fence { lengths: l } => with(model.fence(m.device.first(l.device))),
             Step::FencePassed { lengths: l, fence } => with(model.fence_passed(m.device.first(l.device), *fence)),
             Step::Append { lengths: l, word } => alone(model.append(m.ring.first_mut(l.ring), *word)),
+            Step::Submit { lengths: l, submission } => {
+                let device = from_words(m.device.first(DEVICE_WORDS));
+                alone(model.submit(m.ring.first_mut(l.ring), submission, device.as_ref()))
+            }
             _ => {
                 between_calls(m, step);
                 None
@@ -172,14 +189,14 @@ impl Pair {
         }
     }
 
-    fn library_step(&mut self, step: &Step) -> Option<Answered> {
+    fn library_step(&mut self, step: &Step) -> Result<Option<Answered>, String> {
         let (m, exact) = (&mut self.library, self.exact);
         let alone = |answer: u32| Some(Answered { answer: u64::from(answer), value: 0 });
         let with = |both| {
             let (answer, value) = halves(both);
             Some(Answered { answer, value })
         };
-        match step {
+        Ok(match step {
             Step::Make { lengths: l, memory, pixels } => alone(sys::make(&mut m.device.lend(l.device, exact), *memory, *pixels)),
             Step::Write { lengths: l, index, value } => {
                 alone(sys::write(&mut m.device.lend(l.device, exact), &m.ring.lend(l.ring, exact), *index, *value))
@@ -203,11 +220,12 @@ impl Pair {
             Step::Fence { lengths: l } => with(sys::fence(&m.device.lend(l.device, exact))),
             Step::FencePassed { lengths: l, fence } => with(sys::fence_passed(&m.device.lend(l.device, exact), *fence)),
             Step::Append { lengths: l, word } => alone(sys::append(&mut m.ring.lend(l.ring, exact), *word)),
+            Step::Submit { lengths: l, submission } => alone(submit(&mut m.ring.lend(l.ring, exact), submission)?),
             _ => {
                 between_calls(m, step);
                 None
             }
-        }
+        })
     }
 
     /// The right lengths for the device as it now is, as far as there is room.
@@ -218,6 +236,16 @@ impl Pair {
         let pixels = (words[1] as usize).min(room.screen.room());
         Lengths { device: DEVICE_WORDS, ring, framebuffer: pixels, screen: pixels, cursor: CURSOR_WORDS, output: pixels, edges: 4 }
     }
+}
+
+/// Lends copies of the command's words, pixels and bytes, each a block of exactly its length. They are lent to be read.
+fn submit(ring: &mut [u32], submission: &Submission) -> Result<u32, String> {
+    let lent = submission.clone();
+    let answer = sys::append_command(ring, &lent.head, &lent.pixels, &lent.bytes);
+    if lent != *submission {
+        return Err("the library changed the command, the pixels or the data that it was lent".to_string());
+    }
+    Ok(answer)
 }
 
 fn halves(both: u64) -> (u64, u64) {

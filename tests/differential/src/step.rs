@@ -1,6 +1,7 @@
 //! One step of a sequence: a call with all its arguments and lent lengths, or what guest and host do to the memories between calls.
 //! A step stands for itself, so that a sequence can be repeated without the generator, and shortened.
 
+use crate::model::writer::Submission;
 use std::fmt;
 
 /// The lent lengths of a call, in words. A call uses those that it takes.
@@ -72,6 +73,10 @@ pub enum Step {
         lengths: Lengths,
         word: u32,
     },
+    Submit {
+        lengths: Lengths,
+        submission: Submission,
+    },
     /// The guest writes words at NEXT_CMD and moves it on, without looking whether the ring is full.
     Put {
         words: Vec<u32>,
@@ -104,28 +109,29 @@ impl Step {
             | Step::Offscreen { lengths }
             | Step::Fence { lengths }
             | Step::FencePassed { lengths, .. }
-            | Step::Append { lengths, .. } => Some(lengths),
+            | Step::Append { lengths, .. }
+            | Step::Submit { lengths, .. } => Some(lengths),
             _ => None,
         }
     }
 }
 
-/// Words of a list, cut short where it is long.
-struct Words<'a>(&'a [u32]);
+/// Words or bytes of a list, cut short where it is long.
+struct Words<'a, T>(&'a [T]);
 
-impl fmt::Display for Words<'_> {
+impl<T: Copy + Into<u32>> fmt::Display for Words<'_, T> {
     fn fmt(&self, out: &mut fmt::Formatter) -> fmt::Result {
         const SHOWN: usize = 64;
-        for (place, word) in self.0.iter().take(SHOWN).enumerate() {
-            let space = if place == 0 { "" } else { " " };
-            if *word < 1 << 20 {
+        for (place, &word) in self.0.iter().take(SHOWN).enumerate() {
+            let (space, word): (_, u32) = (if place == 0 { "" } else { " " }, word.into());
+            if word < 1 << 20 {
                 write!(out, "{space}{word}")?;
             } else {
                 write!(out, "{space}{word:#x}")?;
             }
         }
         if self.0.len() > SHOWN {
-            write!(out, " .. ({} words)", self.0.len())?;
+            write!(out, " .. ({} in all)", self.0.len())?;
         }
         Ok(())
     }
@@ -158,6 +164,17 @@ impl fmt::Display for Step {
                 write!(out, "svga_fence_passed(device[{}], fence {fence:#x})", l.device)
             }
             Step::Append { lengths: l, word } => write!(out, "svga_append(ring[{}], word {})", l.ring, Words(&[*word])),
+            Step::Submit { lengths: l, submission: Submission { head, pixels, bytes } } => write!(
+                out,
+                "svga_append_command(ring[{}], command[{}] {}, pixels[{}] {}, data[{}] {})",
+                l.ring,
+                head.len(),
+                Words(head),
+                pixels.len(),
+                Words(pixels),
+                bytes.len(),
+                Words(bytes)
+            ),
             Step::Put { words } => write!(out, "guest puts {}", Words(words)),
             Step::Ring { place, words } => write!(out, "guest writes ring word {place}: {}", Words(words)),
             Step::Device { place, words } => write!(out, "host writes device word {place}: {}", Words(words)),

@@ -1,4 +1,4 @@
-//! The device as document 01 has it, with what 02's P1 adds, written from their sentences and from nothing else: whole numbers in 64
+//! The device as document 01 has it, with what 02's P1 and P2 add, written from their sentences and from nothing else: whole numbers in 64
 //! bits, plain loops over pixels, no speed. The calls are those of the interface for C, on slices.
 //!
 //! A model may break one `Rule`: the driver has to find each of these.
@@ -9,6 +9,7 @@ pub mod picture;
 mod registers;
 mod rules;
 pub mod run;
+pub mod writer;
 
 pub use rules::Rule;
 

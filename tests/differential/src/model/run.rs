@@ -22,6 +22,9 @@ pub enum Command {
 #[derive(Clone, PartialEq, Eq, Debug)]
 pub struct Executed {
     pub command: Command,
+    /// STOP before it, in bytes, and its words.
+    pub from: u64,
+    pub words: u64,
     pub mode: (u64, u64),
     /// STOP came to MIN, or passed from MAX to MIN.
     pub wrapped: bool,
@@ -30,7 +33,7 @@ pub struct Executed {
 }
 
 /// What a turn finds.
-enum Turn {
+pub(super) enum Turn {
     /// The run ends with this answer: 0, 1 or 10 to 12.
     Ends(u64),
     /// This command of so many words is to be executed.
@@ -38,16 +41,16 @@ enum Turn {
 }
 
 /// Words from STOP to below NEXT_CMD wait.
-struct Waiting<'a> {
-    model: &'a Model,
-    memory: &'a [u32],
-    ring: Ring,
-    words: u64,
+pub(super) struct Waiting<'a> {
+    pub model: &'a Model,
+    pub memory: &'a [u32],
+    pub ring: Ring,
+    pub words: u64,
 }
 
 impl Waiting<'_> {
     /// "Words wrap from MAX to MIN."
-    fn word(&self, offset: u64) -> u64 {
+    pub fn word(&self, offset: u64) -> u64 {
         if self.model.breaks(Rule::WordsReadBeyondMax) {
             return u64::from(*self.memory.get((self.ring.stop / 4 + offset) as usize).unwrap_or(&0));
         }
@@ -56,17 +59,17 @@ impl Waiting<'_> {
 }
 
 /// "The ring holds (MAX − MIN)/4 words"
-fn holds(ring: &Ring) -> u64 {
+pub fn holds(ring: &Ring) -> u64 {
     (ring.max - ring.min) / 4
 }
 
 /// STOP moved on by so many words, "MAX becoming MIN".
-fn moved_on(ring: &Ring, words: u64) -> u64 {
+pub fn moved_on(ring: &Ring, words: u64) -> u64 {
     ring.min + (ring.stop - ring.min + 4 * words) % (ring.max - ring.min)
 }
 
 /// The words of a command's head; none where "Number not offered".
-fn head_words(number: u64) -> Option<u64> {
+pub fn head_words(number: u64) -> Option<u64> {
     match number {
         1 => Some(5),
         2 => Some(6),
@@ -81,10 +84,31 @@ fn head_words(number: u64) -> Option<u64> {
     }
 }
 
+/// "id hotx hoty w h"
+pub fn cursor_in(word: impl Fn(u64) -> u64) -> Cursor {
+    Cursor { id: word(1), hotx: word(2), hoty: word(3), w: word(4), h: word(5) }
+}
+
+/// The command of so many words, an offered one.
+pub fn command_in(word: impl Fn(u64) -> u64, length: u64) -> Command {
+    let rect = |first: u64| Rect { x: word(first), y: word(first + 1), w: word(first + 2), h: word(first + 3) };
+    match word(0) {
+        1 => Command::Update(rect(1)),
+        2 => Command::Fill { colour: word(1), rect: rect(2) },
+        3 => Command::Copy { source: (word(1), word(2)), rect: rect(3) },
+        13 => Command::RopFill { colour: word(1), rect: rect(2), operation: word(6) },
+        14 => Command::RopCopy { source: (word(1), word(2)), rect: rect(3), operation: word(7) },
+        22 => Command::DefineCursor { cursor: cursor_in(&word), pixels: (6..length).map(|place| word(place) as u32).collect() },
+        25 => Command::UpdateVerbose { rect: rect(1), reason: word(5) },
+        30 => Command::Fence(word(1)),
+        _ => Command::Escape { namespace: word(1), size: word(2) },
+    }
+}
+
 impl Model {
     /// "Each turn, in this order: .. Number not offered: 10. Head incomplete: 1. Cursor head bad: 11. Length above what the ring
     /// carries: 12. Words missing: 1. Raster operation above 15: 11. Then it is executed".
-    fn turn(&self, waiting: &Waiting) -> Turn {
+    pub(super) fn turn(&self, waiting: &Waiting) -> Turn {
         let number = waiting.word(0);
         let Some(head) = head_words(number) else {
             if self.breaks(Rule::ForeignNumberWaits) && waiting.words == 1 {
@@ -96,12 +120,10 @@ impl Model {
             return Turn::Ends(1);
         }
         let word = |place| waiting.word(place);
-        let rect = |first: u64| Rect { x: word(first), y: word(first + 1), w: word(first + 2), h: word(first + 3) };
-        let cursor = || Cursor { id: word(1), hotx: word(2), hoty: word(3), w: word(4), h: word(5) };
         let length = match number {
             // "head 6, then w·h"
             22 => {
-                let cursor = cursor();
+                let cursor = cursor_in(word);
                 let too_long = cursor.w < 1 << 31 && cursor.h < 1 << 31 && 6 + cursor.w * cursor.h >= holds(&waiting.ring);
                 if self.breaks(Rule::LengthBeforeCursorHead) && too_long {
                     return Turn::Ends(12);
@@ -126,26 +148,12 @@ impl Model {
         if waiting.words < length {
             return Turn::Ends(1);
         }
-        let operation = |place: u64| {
+        let mut command = command_in(word, length);
+        if let Command::RopFill { operation, .. } | Command::RopCopy { operation, .. } = &mut command {
             if self.breaks(Rule::OperationModulo16) {
-                word(place) % 16
-            } else {
-                word(place)
+                *operation %= 16;
             }
-        };
-        let command = match number {
-            1 => Command::Update(rect(1)),
-            2 => Command::Fill { colour: word(1), rect: rect(2) },
-            3 => Command::Copy { source: (word(1), word(2)), rect: rect(3) },
-            13 => Command::RopFill { colour: word(1), rect: rect(2), operation: operation(6) },
-            14 => Command::RopCopy { source: (word(1), word(2)), rect: rect(3), operation: operation(7) },
-            22 => Command::DefineCursor { cursor: cursor(), pixels: (6..length).map(|place| word(place) as u32).collect() },
-            25 => Command::UpdateVerbose { rect: rect(1), reason: word(5) },
-            30 => Command::Fence(word(1)),
-            _ => Command::Escape { namespace: word(1), size: word(2) },
-        };
-        if let Command::RopFill { operation, .. } | Command::RopCopy { operation, .. } = command {
-            if operation > 15 {
+            if *operation > 15 {
                 return Turn::Ends(11);
             }
         }
@@ -326,12 +334,13 @@ impl Model {
             let words_to_end = (remembered.max - remembered.stop) / 4;
             let straddled = length > words_to_end;
             if let Command::Fence(number) = command {
-                let left_out = self.breaks(Rule::FencePostedInRowOnly) && straddled
-                    || self.breaks(Rule::SameFenceNotPosted) && number == old_fence;
+                let left_out =
+                    self.breaks(Rule::FencePostedInRowOnly) && straddled || self.breaks(Rule::SameFenceNotPosted) && number == old_fence;
                 if self.posts(&remembered, ring) && !left_out {
                     ring[6] = if self.breaks(Rule::OldFencePosted) { old_fence } else { number } as u32;
                 }
             }
+            let from = remembered.stop;
             remembered.stop = moved_on(&remembered, length);
             if self.breaks(Rule::StopLeftAtMax) && length == words_to_end {
                 remembered.stop = remembered.max;
@@ -345,7 +354,7 @@ impl Model {
                 count += 1;
             }
             let mode = (device.width, device.height);
-            self.executed.push(Executed { command, mode, wrapped: length >= words_to_end, straddled });
+            self.executed.push(Executed { command, from, words: length, mode, wrapped: length >= words_to_end, straddled });
         };
         // "The run changes no other ring word, and none if it consumed nothing." 02's P1: "A run then changes words 3 and 6 only".
         if self.breaks(Rule::StopWrittenUnasked) {

@@ -1,0 +1,11 @@
+pub mod Appending
+pub mod Asking
+pub mod Bytes
+pub mod CommandWords
+pub mod Ends
+pub mod Freed
+pub mod Laying
+pub mod Pasting
+pub mod ReadBack
+pub mod RoomLaws
+pub mod Taking

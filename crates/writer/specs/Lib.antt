@@ -1,0 +1,3 @@
+pub mod Laying
+pub mod Writing
+pub mod Reading
