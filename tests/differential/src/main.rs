@@ -8,6 +8,7 @@ mod generate;
 mod memory;
 mod model;
 mod pair;
+mod plain;
 mod random;
 mod shrink;
 mod step;
@@ -98,7 +99,7 @@ fn show(steps: &[Step]) {
 /// Sequences from a seed on; the counts are required where there are enough sequences.
 fn gate(seed: u64, sequences: u64, exact: bool) -> bool {
     let began = Instant::now();
-    if !cases::hold(exact) {
+    if !cases::hold(exact) || !plain::hold() {
         return false;
     }
     let mut counts = Counts::new();
