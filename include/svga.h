@@ -306,8 +306,15 @@ uint32_t svga_picture(const uint32_t *device, size_t device_len, const uint32_t 
                       size_t cursor_len, uint32_t *output, size_t output_len);
 
 /*
- * Writes the usable offscreen rectangle's left, top, right and bottom edge to the four words of edges; right and bottom are excluded. It
- * is empty where right <= left or bottom <= top.
+ * Writes the usable offscreen rectangle's left, top, right and bottom edge to the four words of edges; right and bottom are excluded:
+ *
+ *   left    0
+ *   top     FB_SIZE / BYTES_PER_LINE, rounded up: the mode's height
+ *   right   8 * BYTES_PER_LINE / BITS_PER_PIXEL: the mode's width
+ *   bottom  VRAM_SIZE / BYTES_PER_LINE, rounded down
+ *
+ * These are the rows of the screen's memory behind the mode, where no picture shows them. The rectangle is empty where bottom <= top,
+ * as where the mode takes all of P; the edges are as they come out even then.
  *
  *   SVGA_ANSWER_TAKEN        done
  *   SVGA_ANSWER_LENT_LENGTH  device_len is not SVGA_DEVICE_WORDS, or edges_len is not SVGA_EDGES_WORDS; the edges stay as they were

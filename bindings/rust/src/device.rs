@@ -27,7 +27,8 @@ pub struct Lent<'a> {
     pub cursor: &'a mut [u32],
 }
 
-/// The usable offscreen rectangle; right and bottom are excluded.
+/// The usable offscreen rectangle: the rows of the screen's memory behind the mode, as wide as the mode. Right and bottom are excluded;
+/// right is 8 · BYTES_PER_LINE / BITS_PER_PIXEL, top FB_SIZE / BYTES_PER_LINE rounded up, bottom VRAM_SIZE / BYTES_PER_LINE.
 #[derive(Clone, Copy, Debug, PartialEq, Eq, Hash)]
 pub struct Edges {
     /// The first column.

@@ -1,10 +1,10 @@
--- The usable offscreen rectangle: document 01, "Registers".
-use Prim.Native.Nat.{ℕ, _+_, _-_, _/_}
+-- The usable offscreen rectangle: document 01, "Registers", and document 02, P4: "The offscreen width is wrong".
+use Prim.Native.Nat.{ℕ, _+_, _-_, _*_, _/_}
 use mathlib.Core.Bool.{cond}
 use Rattle.device.specs.declared.Device.{Device}
 use Rattle.adapter.specs.declared.Edges.{Edges}
 use Rattle.register.specs.declared.ReadOnly.{ReadOnly}
-use Rattle.register.specs.declared.ReadOnly.the-variants.{Depth, BytesPerLine, FbSize, VramSize}
+use Rattle.register.specs.declared.ReadOnly.the-variants.{BitsPerPixel, BytesPerLine, FbSize, VramSize}
 use Rattle.device.specs.Device.{widthOf, heightOf, wellFormed}
 use Rattle.register_read.specs.Registers.{readOnlyValue}
 
@@ -16,15 +16,16 @@ reads d r = readOnlyValue (d .sizes) (widthOf d) (heightOf d) (d .busy) r
 abbrev pub ceiling : ℕ → ℕ → ℕ
 ceiling a b = (a + b - 1) / b
 
--- "x from 0 to BYTES_PER_LINE / DEPTH, y from FB_SIZE / BYTES_PER_LINE rounded up to VRAM_SIZE / BYTES_PER_LINE, floors otherwise,
--- ends excluded. It may be empty. The base only reports its four edges, worked out by these rules even then."
+-- 02: "The right end is 8·BYTES_PER_LINE divided by bits per pixel .. Document 01's rule is replaced; its other three edges stand." 01: "x from 0 .., y from
+-- FB_SIZE / BYTES_PER_LINE rounded up to VRAM_SIZE / BYTES_PER_LINE, floors otherwise, ends excluded. It may be empty. The base only reports its four
+-- edges, worked out by these rules even then."
 unfoldable pub offscreenOf : Device → Edges
 offscreenOf d =
     cond (wellFormed d)
     (record {
       left = 0;
       top = ceiling (reads d FbSize) (reads d BytesPerLine);
-      right = reads d BytesPerLine / reads d Depth;
+      right = 8 * reads d BytesPerLine / reads d BitsPerPixel;
       bottom = reads d VramSize / reads d BytesPerLine;
     })
     (record { left = 0; top = 0; right = 0; bottom = 0 })

@@ -4,9 +4,10 @@ use cursor::IMAGE_WORDS;
 use picture::Overlay;
 use picture::VisibleCursor;
 ghost use mathlib.Core.Path.{_≡_};
+ghost use Prim.Native.Nat.{_*_, _/_, _≤_};
 ghost use Rattle.device.specs.Device.{definedOf};
 ghost use Rattle.adapter.specs.Picture.{pictureNumber, pictured, cursorOver, lengthsGood, pictureOf};
-ghost use Rattle.adapter.specs.Offscreen.{offscreenOf};
+ghost use Rattle.adapter.specs.Offscreen.{ceiling, offscreenOf};
 ghost use Rattle.adapter.specs.Fence.{fenceOf, fencePassed};
 
 // The types and calls of the crates below: callers name this crate alone.
@@ -126,8 +127,24 @@ pub fn picture(d: Device, screen: &[u32], image: &[u32], output: &mut [u32]) -> 
 
 // ---- offscreen rectangle
 
+// The edges of a mode, by the bytes of a line, of the mode and of all pixels.
+fn edges_of(width: u32, height: u32, pixels: u32) -> Edges
+    requires { ⌜ (1 ≤ width) × (width ≤ 2560) × (4 * width * height ≤ 16384000) × (pixels ≤ 4096000) ⌝ }
+    ensures { λ r. ⌜ r ≡ record { left = 0; top = ceiling (4 * width * height) (4 * width); right = 8 * (4 * width) / 32; bottom = 4 * pixels / (4 * width) } ⌝ }
+{
+    let line = 4 * width;
+    let size = 4 * width * height;
+    let vram = 4 * pixels;
+    Edges {
+        left: 0,
+        top: (size + line - 1) / line,
+        right: 8 * line / 32,
+        bottom: vram / line,
+    }
+}
+
 // The usable offscreen rectangle. It may be empty.
-// Rules out: a bottom edge rounded up; four zeros for an empty rectangle.
+// Rules out: a bottom edge rounded up; a right edge that divides by the depth; four zeros for an empty rectangle.
 pub fn offscreen(d: Device) -> Edges
     ensures { λ r. ⌜ r ≡ offscreenOf d ⌝ }
 {
@@ -142,15 +159,7 @@ pub fn offscreen(d: Device) -> Edges
     }
     let sizes = d.sizes;
     let g = d.registers;
-    let line = 4 * g.width;
-    let size = 4 * g.width * g.height;
-    let vram = 4 * sizes.pixels;
-    Edges {
-        left: 0,
-        top: (size + line - 1) / line,
-        right: line / 24,
-        bottom: vram / line,
-    }
+    edges_of(g.width, g.height, sizes.pixels)
 }
 
 // ---- fences

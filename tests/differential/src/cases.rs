@@ -1,4 +1,4 @@
-//! Document 01's "Numbers to hold against it" and its console example, and numbers for 02's P1 and P2, on the library and the model.
+//! Document 01's "Numbers to hold against it" and its console example, and numbers for 02's P1, P2 and P4, on the library and the model.
 
 use crate::alarm;
 use crate::counts::Counts;
@@ -235,6 +235,14 @@ pub fn hold(exact: bool) -> bool {
     }
 
     writer::hold(&mut b);
+
+    // 02's P4: "at width 1,024 .. got 170 columns"; two rows are left behind the mode.
+    b.accepted([16, MAX, 16, 16], 1024, 6);
+    b.write(3, 4);
+    let lengths = b.pair.right_lengths();
+    b.step(Step::Offscreen { lengths });
+    let edges = b.pair.expected.edges.first(4).to_vec();
+    b.holds("P4, the offscreen rectangle at width 1,024", edges == [0, 4, 1024, 6]);
 
     for line in &b.failed {
         println!("failed: the documents' numbers: {line}");

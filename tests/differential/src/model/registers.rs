@@ -210,11 +210,11 @@ impl Model {
         (0, value)
     }
 
-    /// "x from 0 to BYTES_PER_LINE / DEPTH, y from FB_SIZE / BYTES_PER_LINE rounded up to VRAM_SIZE / BYTES_PER_LINE, floors
-    /// otherwise, ends excluded": left, top, right, bottom.
+    /// 02's P4: "The right end is 8·BYTES_PER_LINE divided by bits per pixel". 01: "x from 0 .., y from FB_SIZE / BYTES_PER_LINE rounded
+    /// up to VRAM_SIZE / BYTES_PER_LINE, floors otherwise, ends excluded": left, top, right, bottom.
     pub fn edges(&self, device: &Device) -> [u64; 4] {
         let line = bytes_per_line(device);
-        let right = if self.breaks(Rule::OffscreenRightWhole) { device.width } else { line / 24 };
+        let right = if self.breaks(Rule::OffscreenRightByDepth) { line / 24 } else { 8 * line / 32 };
         let top = fb_size(device).div_ceil(line);
         let mut bottom = vram_size(device) / line;
         if self.breaks(Rule::OffscreenBottomRoundedUp) {

@@ -167,7 +167,7 @@ rules! {
     // Making, offscreen, fences
     MemoryRoundedDown: "M is rounded down to a multiple of 4",
     FreshMode1280By720: "a fresh device has mode 1280 by 720",
-    OffscreenRightWhole: "the offscreen rectangle has the mode's width",
+    OffscreenRightByDepth: "the offscreen rectangle's right edge divides bytes by the depth",
     OffscreenBottomRoundedUp: "the offscreen rectangle's bottom is rounded up",
     OffscreenEmptyCut: "an offscreen bottom above the top is cut",
     OffscreenOfNoDevice: "the offscreen rectangle of words that are no device is four zeros with answer 0",
