@@ -134,6 +134,7 @@ static uint32_t rop_pixel(uint32_t rop, uint32_t s, uint32_t d) {
     return (-(rop & 1) & s & d) | (-(rop >> 1 & 1) & s & ~d) | (-(rop >> 2 & 1) & ~s & d) | (-(rop >> 3 & 1) & ~s & ~d);
 }
 
+// An update keeps to the mode; fills and copies reach all rows.
 static void update(struct peer *p, const uint32_t *a) {
     struct rect r = cut(a, p->width, p->height);
     size_t at = (size_t)r.y * p->width + r.x;
@@ -141,7 +142,7 @@ static void update(struct peer *p, const uint32_t *a) {
 }
 
 static void fill(struct peer *p, const uint32_t *a, uint32_t rop) {
-    struct rect r = cut(a + 1, p->width, p->height);
+    struct rect r = cut(a + 1, p->width, p->lent.rows);
     uint32_t colour = a[0];
     if (!r.w || !r.h) return;
     uint32_t *d = pixel(p, r.x, r.y);
@@ -161,7 +162,7 @@ static bool apart(struct rect a, struct rect b) {
 // The quickest way for each width: pixman where rows are short and do not overlap, else memmove for each row.
 static void copy(struct peer *p, const uint32_t *a, uint32_t rop) {
     uint32_t from[4] = {a[0], a[1], a[4], a[5]}, to[4] = {a[2], a[3], a[4], a[5]};
-    struct rect source = cut(from, p->width, p->height), r = cut(to, p->width, p->height);
+    struct rect source = cut(from, p->width, p->lent.rows), r = cut(to, p->width, p->lent.rows);
     r.w = smaller(r.w, source.w), r.h = smaller(r.h, source.h);
     if (!r.w || !r.h) return;
     uint32_t *d = pixel(p, r.x, r.y), *s = pixel(p, source.x, source.y);
@@ -281,6 +282,7 @@ uint64_t peer_run(struct peer *p, uint32_t *ring, size_t ring_len, const uint32_
     if (p->width * p->height > p->pixels) return result(SVGA_ANSWER_MODE_TOO_LARGE, 0);
     if (p->fault) return result(SVGA_ANSWER_FAULT_STANDS, 0);
     p->lent.ring = ring, p->lent.framebuffer = framebuffer, p->lent.screen = screen, p->lent.cursor = cursor;
+    p->lent.rows = p->pixels / p->width;
     uint64_t ended = run_commands(p, budget);
     uint32_t answer = (uint32_t)(ended >> 32);
     if (answer != SVGA_ANSWER_SPENT) p->busy = false;

@@ -27,6 +27,7 @@ struct peer {
         uint32_t *ring;
         const uint32_t *framebuffer;
         uint32_t *screen, *cursor;
+        uint32_t rows; // of the screen: those of the mode, and the offscreen ones behind it
     } lent;
 };
 
@@ -51,10 +52,10 @@ struct rect {
 
 static inline uint32_t smaller(uint32_t a, uint32_t b) { return a < b ? a : b; }
 
-// The part of x, y, w, h inside the mode; empty where w or h is 0. Nothing is added, so nothing wraps.
-static inline struct rect cut(const uint32_t *a, uint32_t width, uint32_t height) {
+// The part of x, y, w, h inside so many columns and rows; empty where w or h is 0. Nothing is added, so nothing wraps.
+static inline struct rect cut(const uint32_t *a, uint32_t width, uint32_t rows) {
     struct rect r = {a[0], a[1], 0, 0};
-    if (r.x < width && r.y < height) r.w = smaller(a[2], width - r.x), r.h = smaller(a[3], height - r.y);
+    if (r.x < width && r.y < rows) r.w = smaller(a[2], width - r.x), r.h = smaller(a[3], rows - r.y);
     return r;
 }
 

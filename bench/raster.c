@@ -79,6 +79,26 @@ static void memmove_copies(const struct job *j) {
         for (size_t row = j->h; row-- > 0;) memmove(screen + to + row * j->width, screen + from + row * j->width, bytes);
     }
 }
+// Plain loops: rows, and in them columns, each in the order that an overlap asks for.
+static void loop_fills(const struct job *j) {
+    size_t n = j->w;
+    uint32_t colour = j->colour;
+    for (size_t row = 0; row < j->h; row++) {
+        uint32_t *d = screen + destination(j) + row * j->width;
+        for (size_t i = 0; i < n; i++) d[i] = colour;
+    }
+}
+static void loop_copies(const struct job *j) {
+    size_t from = source(j), to = destination(j), width = j->width, n = j->w, h = j->h;
+    uint32_t *pixels = screen;
+    if (to <= from) {
+        for (size_t row = 0; row < h; row++)
+            for (size_t i = 0; i < n; i++) pixels[to + row * width + i] = pixels[from + row * width + i];
+    } else {
+        for (size_t row = h; row-- > 0;)
+            for (size_t i = n; i-- > 0;) pixels[to + row * width + i] = pixels[from + row * width + i];
+    }
+}
 static void loop_xor_fills(const struct job *j) {
     size_t n = j->w;
     uint32_t colour = j->colour;
@@ -160,6 +180,15 @@ static const struct comparison moved_screen[] = {
     {"copy", {"ours", our_copy, 0}, {{"memmove per row", memmove_copies, 1.05}, {"ours again", our_copy, 0}}}, // the second: what is noise
     {"XOR copy", {"ours", our_xor_copy, 0}, {{"C XOR loop", loop_xor_copies, 1.25}}},
 };
+// Rows of one pixel, as many as the largest screen has: offscreen rows are no fewer for a mode that is narrow.
+static const struct comparison tall_screen[] = {
+    {"fill", {"ours", our_fill, 0}, {{"pixman_fill", pixman_fills, 1.05}, {"C loop", loop_fills, 1.05}}},
+    {"XOR fill", {"ours", our_xor_fill, 0}, {{"C XOR loop", loop_xor_fills, 0}}},
+};
+static const struct comparison tall_moved[] = {
+    {"copy", {"ours", our_copy, 0}, {{"memmove per row", memmove_copies, 1.05}, {"C loop", loop_copies, 1.05}}},
+    {"XOR copy", {"ours", our_xor_copy, 0}, {{"C XOR loop", loop_xor_copies, 1.25}}},
+};
 static const struct comparison small[] = {
     {"fill", {"ours", our_fill, 0}, {{"pixman_fill", pixman_fills, 1.00}}},
     {"XOR fill", {"ours", our_xor_fill, 0}, {{"C XOR loop", loop_xor_fills, 0}}},
@@ -193,6 +222,20 @@ static void measure_screen(uint32_t width, uint32_t rows, int rounds) {
             struct job job = shifted(width, rows, d);
             snprintf(size, sizeof size, "%ux%u %s", width, rows, direction_name[d]);
             compare(size, &moved_screen[i], &job, 1, rounds);
+        }
+    }
+}
+
+static void measure_tall(uint32_t rows, int rounds) {
+    char size[64];
+    struct job whole = {.width = 1, .rows = rows, .w = 1, .h = rows, .colour = 0x123456};
+    snprintf(size, sizeof size, "1x%u", rows);
+    for (size_t i = 0; i < COUNT(tall_screen); i++) compare(size, &tall_screen[i], &whole, 1, rounds);
+    for (size_t i = 0; i < COUNT(tall_moved); i++) {
+        for (enum direction d = UP; d <= DOWN; d++) {
+            struct job job = shifted(1, rows, d);
+            snprintf(size, sizeof size, "1x%u %s", rows, direction_name[d]);
+            compare(size, &tall_moved[i], &job, 1, rounds);
         }
     }
 }
@@ -286,7 +329,8 @@ int main(int argc, char **argv) {
 
     printf("| Case | ours, ns | Reference | ns | Ratio | Target |\n|---|---|---|---|---|---|\n");
     measure_screen(1280, 720, rounds);
-    measure_screen(2560, 1600, rounds);
+    measure_screen(MAX_WIDTH, MAX_ROWS, rounds);
+    measure_tall(MAX_WIDTH * MAX_ROWS, rounds);
     measure_small(rounds * 2);
     return 0;
 }

@@ -1,4 +1,5 @@
-// Speed of a run: streams of small commands with a large budget, run by our device and by a device in plain C, on the same memories.
+// Speed of a run: streams of small commands with a large budget, run by our device and by a device in plain C, on the same memories; and a
+// strip that is scrolled in offscreen rows and shown.
 // A Markdown table of the time for one command, ours and the C device's, and of the same rectangles painted directly, with nothing parsed.
 // First some thousand small hostile rings are run by both devices and compared whole. Before a stream is timed, each contender runs it from
 // one screen and has to end with the same screen, and the devices with the same fence, posted to ring word 6; then all run in turn, and the
@@ -17,15 +18,16 @@ static const uint32_t ALL = 0xFFFFFFFF; // a budget
 
 enum { SMALL_SIZE = SVGA_RING_BYTES_MIN / 4, SMALL_RING = FIRST + 1 + SMALL_SIZE, SMALL_PIXELS = 1200 }; // rings from words 4 to 8 on
 
-static void put_hostile_command(uint32_t *ring, uint32_t first, uint32_t *at, uint32_t width, uint32_t height) {
+// Its rectangles go by so many rows, the mode's or all that the screen has.
+static void put_hostile_command(uint32_t *ring, uint32_t first, uint32_t *at, uint32_t width, uint32_t rows) {
     enum { UPDATE = 1, FILL = 2, COPY = 3, ROP_FILL = 13, ROP_COPY = 14, CURSOR = 22, UPDATE_VERBOSE = 25, FENCE = 30, ESCAPE = 33 };
     static const uint32_t numbers[] = {UPDATE, FILL, COPY, ROP_FILL, ROP_COPY, CURSOR, UPDATE_VERBOSE, FENCE, ESCAPE};
     uint32_t number = rand() % 200 == 0 ? random_number(40) : numbers[rand() % 9], a[8], n = 0;
     uint32_t data = 0; // words after the arguments
     if (number == FILL || number == ROP_FILL || number == FENCE) a[n++] = random_word();
-    if (number == COPY || number == ROP_COPY) a[n++] = random_number(width), a[n++] = random_number(height);
+    if (number == COPY || number == ROP_COPY) a[n++] = random_number(width), a[n++] = random_number(rows);
     if (number <= ROP_COPY || number == UPDATE_VERBOSE) {
-        a[n++] = random_number(width), a[n++] = random_number(height), a[n++] = random_number(width), a[n++] = random_number(height);
+        a[n++] = random_number(width), a[n++] = random_number(rows), a[n++] = random_number(width), a[n++] = random_number(rows);
     }
     if (number == ROP_FILL || number == ROP_COPY) a[n++] = rand() % 100 == 0 ? random_number(16) : (uint32_t)rand() % 16;
     if (number == UPDATE_VERBOSE) a[n++] = random_word();
@@ -50,13 +52,14 @@ static void put_hostile_command(uint32_t *ring, uint32_t first, uint32_t *at, ui
 
 static bool check_one(int trial) {
     static uint32_t ring[2][SMALL_RING], fb[SMALL_PIXELS], screen[2][SMALL_PIXELS], cursor[2][SVGA_CURSOR_WORDS];
-    uint32_t width = 1 + (uint32_t)rand() % 40, height = 1 + (uint32_t)rand() % 30;
+    uint32_t width = 1 + (uint32_t)rand() % 40, rows = SMALL_PIXELS / width;
+    uint32_t height = rand() % 3 ? 1 + (uint32_t)rand() % 30 : rows; // most of them with offscreen rows behind the mode
     uint32_t first = rand() % 2 ? FIRST : 4 + (uint32_t)rand() % 5; // most of them where fences are posted
     uint32_t stop = first + (uint32_t)rand() % SMALL_SIZE, at = stop;
     for (int i = 0; i < SMALL_RING; i++) ring[0][i] = random_word();
     for (int i = 0; i < SMALL_PIXELS; i++) screen[0][i] = random_word(), fb[i] = random_word();
     for (int i = 0; i < SVGA_CURSOR_WORDS; i++) cursor[0][i] = random_word();
-    for (int n = rand() % 40; n > 0; n--) put_hostile_command(ring[0], first, &at, width, height);
+    for (int n = rand() % 40; n > 0; n--) put_hostile_command(ring[0], first, &at, width, rand() % 3 ? rows : height);
     if (rand() % 4 == 0) at = first + (uint32_t)rand() % SMALL_SIZE;
     empty_ring_at(ring[0], first, first + SMALL_SIZE);
     ring[0][SVGA_FIFO_NEXT_CMD] = at * 4, ring[0][SVGA_FIFO_STOP] = stop * 4;
@@ -84,7 +87,8 @@ static bool check_one(int trial) {
 static bool check_all(int count) {
     for (int i = 0; i < count; i++)
         if (!check_one(i)) return false;
-    printf("%d hostile rings end alike in both devices: answer, count, ring, screen, cursor image, defined cursor and fence.\n\n", count);
+    printf("%d hostile rings end alike in both devices: answer, count, ring, whole screen, cursor image, defined cursor and fence.\n\n",
+           count);
     return true;
 }
 
@@ -92,12 +96,13 @@ static bool check_all(int count) {
 
 enum { WIDTH = 1920, HEIGHT = 1080, PIXELS = WIDTH * HEIGHT };
 enum { RING_WORDS = SVGA_MEMORY_MAX / 4, SIDE = 16, MOST_COMMANDS = RING_WORDS / 2 };
+enum { STRIP = 120, STRIP_TOP = HEIGHT - STRIP, STEPS = 64 }; // the rows of the strip, its first one, and how often it is scrolled
 
 static uint32_t *ring, *framebuffer, *screen;
 static uint32_t *old_screen, *first_screen; // for the check: before each contender's run, and after the first one's
 static struct lent lent;
 
-// One command as the direct rows paint it: already cut to the mode.
+// One command as the direct rows paint it: already cut.
 struct job {
     uint32_t command;
     uint32_t colour;
@@ -106,8 +111,12 @@ struct job {
 static struct job *jobs;
 static size_t job_count;
 
-enum kind { FENCES, FILLS_1, FILLS_16, UPDATES_16, COPIES_16, MIXED };
-static const char *const kind_name[] = {"FENCE", "RECT_FILL 1x1", "RECT_FILL 16x16", "UPDATE 16x16", "RECT_COPY 16x16", "all five, mixed"};
+enum kind { FENCES, FILLS_1, FILLS_16, UPDATES_16, COPIES_16, MIXED, SCROLL };
+static const char *const kind_name[] = {"FENCE", "RECT_FILL 1x1", "RECT_FILL 16x16", "UPDATE 16x16", "RECT_COPY 16x16", "all five, mixed",
+                                        "strip of 1920x120 scrolled offscreen"};
+
+// The mode has all pixels, but for those of a strip that is kept offscreen.
+static uint32_t mode_height(enum kind kind) { return kind == SCROLL ? STRIP_TOP : HEIGHT; }
 
 // Drawn places reach over the right and the lower edge now and then.
 static void put_command(enum kind kind, uint32_t *at) {
@@ -127,13 +136,34 @@ static void put_command(enum kind kind, uint32_t *at) {
         for (int i = 0; i < 4; i++) put(ring, RING_WORDS, at, to[i]);
 }
 
-// Fills the ring. It begins in the middle, so that the words wrap once.
+static void put_fill(uint32_t *at, uint32_t colour, struct rect to) {
+    const uint32_t words[] = {SVGA_CMD_RECT_FILL, colour, to.x, to.y, to.w, to.h};
+    jobs[job_count++] = (struct job){.command = words[0], .colour = colour, .to = to};
+    for (size_t i = 0; i < COUNT(words); i++) put(ring, RING_WORDS, at, words[i]);
+}
+static void put_copy(uint32_t *at, struct rect from, uint32_t x, uint32_t y) {
+    const uint32_t words[] = {SVGA_CMD_RECT_COPY, from.x, from.y, x, y, from.w, from.h};
+    jobs[job_count++] = (struct job){.command = words[0], .from = from, .to = {x, y, from.w, from.h}};
+    for (size_t i = 0; i < COUNT(words); i++) put(ring, RING_WORDS, at, words[i]);
+}
+
+// A curve moves on by a column: the strip in the offscreen rows, then a new column in it; and the strip is shown.
+static void put_scroll(uint32_t *at) {
+    uint32_t level = 1 + (uint32_t)rand() % (STRIP - 1);
+    put_copy(at, (struct rect){1, STRIP_TOP, WIDTH - 1, STRIP}, 0, STRIP_TOP);
+    put_fill(at, 0x0E1E38, (struct rect){WIDTH - 1, STRIP_TOP, 1, STRIP});
+    put_fill(at, 0x0E5CB0, (struct rect){WIDTH - 1, STRIP_TOP + level, 1, STRIP - level});
+    put_copy(at, (struct rect){0, STRIP_TOP, WIDTH, STRIP}, 0, 200);
+}
+
+// Fills the ring, or scrolls some times. It begins in the middle, so that the words of a full ring wrap once.
 static uint32_t start_of_stream(void) { return RING_WORDS / 2 + 1; }
 
 static void make_stream(enum kind kind) {
     uint32_t at = start_of_stream(), size = RING_WORDS - FIRST;
     job_count = 0;
-    for (;;) {
+    for (int i = 0; kind == SCROLL && i < STEPS; i++) put_scroll(&at);
+    while (kind != SCROLL) {
         uint32_t used = (at + size - start_of_stream()) % size;
         if (job_count > 0 && used + 8 > size - 1) break;
         put_command(kind == MIXED ? (enum kind)(rand() % MIXED) : kind, &at);
@@ -156,7 +186,7 @@ static uint64_t c_device(void) {
 static uint32_t before_device[SVGA_DEVICE_WORDS];
 
 static uint64_t before(void) {
-    const uint32_t writes[][2] = {{SVGA_REG_WIDTH, WIDTH}, {SVGA_REG_HEIGHT, HEIGHT}, {SVGA_REG_ENABLE, 1}, {SVGA_REG_CONFIG_DONE, 1}};
+    const uint32_t writes[][2] = {{SVGA_REG_WIDTH, WIDTH}, {SVGA_REG_HEIGHT, lent.height}, {SVGA_REG_ENABLE, 1}, {SVGA_REG_CONFIG_DONE, 1}};
     before_make(before_device, SVGA_DEVICE_WORDS, RING_WORDS * 4, PIXELS);
     for (size_t i = 0; i < COUNT(writes); i++)
         before_write(before_device, SVGA_DEVICE_WORDS, ring, RING_WORDS, writes[i][0], writes[i][1]);
@@ -205,7 +235,16 @@ static uint64_t (*const contender[])(void) = {
 #endif
 };
 enum { CONTENDERS = COUNT(contender), HAS_BEFORE = CONTENDERS > BEFORE };
-static const double TARGET = 1.0, TARGET_BEFORE = 1.05;
+static const double TARGET = 1.0, TARGET_SCROLL = 1.05, TARGET_BEFORE = 1.05;
+
+// Whether every device reaches offscreen rows; an older archive may be one that does not.
+static bool all_reach_offscreen(void) {
+#ifdef BEFORE_ABI
+    return svga_value_of(before_read(before_device, SVGA_DEVICE_WORDS, SVGA_REG_CAPABILITIES)) & SVGA_CAP_OFFSCREEN_1;
+#else
+    return true;
+#endif
+}
 
 enum { NONE_POSTED = 0x5A5A5A };
 
@@ -261,6 +300,7 @@ static bool measure(enum kind kind, int rounds) {
     double typical[MOST_CONTENDERS];
     int order[MOST_CONTENDERS] = {0};
     make_stream(kind);
+    lent.height = mode_height(kind);
     if (kind == FENCES || kind == FILLS_1) rounds *= 10; // theirs take a millisecond
     bool agree = all_agree();
     for (int round = 0; agree && round < rounds; round++) {
@@ -277,7 +317,7 @@ static bool measure(enum kind kind, int rounds) {
     }
     for (int c = 0; c < CONTENDERS; c++) typical[c] = median(&times[c]), free(times[c].t);
     printf("| %s | %zu | %.1f | %.1f |", kind_name[kind], job_count, typical[OURS], typical[C_DEVICE]);
-    print_ratio(typical[OURS] / typical[C_DEVICE], TARGET);
+    print_ratio(typical[OURS] / typical[C_DEVICE], kind == SCROLL ? TARGET_SCROLL : TARGET);
     if (HAS_BEFORE) {
         printf(" %.1f |", typical[BEFORE]);
         print_ratio(typical[OURS] / typical[BEFORE], TARGET_BEFORE);
@@ -305,5 +345,5 @@ int main(int argc, char **argv) {
            HAS_BEFORE ? "---|---|---|" : "");
     for (enum kind kind = FENCES; kind <= MIXED; kind++)
         if (!measure(kind, rounds)) return 1;
-    return 0;
+    return all_reach_offscreen() && !measure(SCROLL, rounds);
 }

@@ -10,7 +10,7 @@
  *     device        SVGA_DEVICE_WORDS words, first written by svga_make
  *     ring          the ring memory: M / 4 words, M being the bytes that the device was made for; the guest writes commands here
  *     framebuffer   P words, P being the pixels that the device was made for; the guest draws here; no call changes it
- *     screen        P words: what is shown, without the cursor
+ *     screen        P words: what is shown, without the cursor; behind the mode's rows, offscreen rows that fills and copies reach too
  *     cursor        SVGA_CURSOR_WORDS words: the cursor image
  *     output        P words: a finished picture
  *
@@ -150,9 +150,10 @@ extern "C" {
 #define SVGA_CAP_CURSOR_BYPASS 0x40
 #define SVGA_CAP_CURSOR_BYPASS_2 0x80
 #define SVGA_CAP_ALPHA_CURSOR 0x200
+#define SVGA_CAP_OFFSCREEN_1 0x1000 /* fills and copies reach the offscreen rectangle: svga_offscreen */
 
 /* What CAPABILITIES reads: all of these */
-#define SVGA_CAPABILITIES 0x2D3
+#define SVGA_CAPABILITIES 0x12D3
 
 /* ---- The ring */
 
@@ -169,7 +170,11 @@ extern "C" {
  */
 #define SVGA_FIFO_FENCE 6
 
-/* Commands: the number, then its arguments, a word each. Coordinates are unsigned; x + w never wraps; all is cut to the mode. */
+/*
+ * Commands: the number, then its arguments, a word each. Coordinates are unsigned; x + w never wraps. UPDATE and UPDATE_VERBOSE are cut to
+ * the mode. Fills and copies are cut to the mode and the offscreen rows behind it: width by P / width rows, rounded down. A pixel is copied
+ * where both it and the place that it goes to lie there. A fill that is higher than the rest of the mode therefore goes on offscreen.
+ */
 #define SVGA_CMD_UPDATE 1               /* x y w h: framebuffer pixels come to the screen */
 #define SVGA_CMD_RECT_FILL 2            /* colour x y w h */
 #define SVGA_CMD_RECT_COPY 3            /* sx sy dx dy w h */
@@ -270,8 +275,9 @@ uint64_t svga_read(const uint32_t *device, size_t device_len, uint32_t index);
 /*
  * Runs commands out of the ring, `budget` at the most: svga_answer_of gives the answer, svga_value_of the number of commands consumed.
  * A budget of 0 answers SVGA_ANSWER_SPENT. The budget bounds the time that a hostile guest can take: one command paints at most P pixels,
- * so a run takes at most `budget` times what an update of the whole screen takes (README, "Choosing a budget"). Changes:
- *   - of the screen, pixels in the commands' rectangles cut to the mode, and no others
+ * so a run takes at most `budget` times what the dearest of them takes (README, "Choosing a budget"). Changes:
+ *   - of the screen, pixels in the commands' rectangles, cut as said at SVGA_CMD_*, and no others: the P % width words behind the last
+ *     whole row never
  *   - of the cursor image, for a cursor of w by h the first w * h words
  *   - of the ring, word SVGA_FIFO_STOP, if a command was consumed, and word SVGA_FIFO_FENCE, if the accepted MIN is 28 or more and a FENCE
  *     was executed
@@ -295,7 +301,7 @@ uint64_t svga_run(uint32_t *device, size_t device_len, uint32_t *ring, size_t ri
 
 /*
  * Writes the picture: the screen, with the cursor blended over it where it is shown and its id is the defined cursor's. Changes the first
- * width * height words of the output. The device may be disabled, unconfigured or faulted.
+ * width * height words of the output: offscreen rows are not shown. The device may be disabled, unconfigured or faulted.
  *
  *   SVGA_ANSWER_TAKEN           done
  *   SVGA_ANSWER_LENT_LENGTH     device_len is not SVGA_DEVICE_WORDS; or (looked for after the well-formed words) screen_len or output_len
@@ -313,8 +319,10 @@ uint32_t svga_picture(const uint32_t *device, size_t device_len, const uint32_t 
  *   right   8 * BYTES_PER_LINE / BITS_PER_PIXEL: the mode's width
  *   bottom  VRAM_SIZE / BYTES_PER_LINE, rounded down
  *
- * These are the rows of the screen's memory behind the mode, where no picture shows them. The rectangle is empty where bottom <= top,
- * as where the mode takes all of P; the edges are as they come out even then.
+ * These are the rows of the screen's memory behind the mode, where no picture shows them and UPDATE brings nothing. Fills and copies read
+ * and write them as they do the mode's: keep there what is to be shown again, and copy it back. The words stay as they are when the mode
+ * changes, but with another width they are other pixels. The rectangle is empty where bottom <= top, as where the mode takes all of P; the
+ * edges are as they come out even then. To have rows there, make the device for more pixels than the mode has.
  *
  *   SVGA_ANSWER_TAKEN        done
  *   SVGA_ANSWER_LENT_LENGTH  device_len is not SVGA_DEVICE_WORDS, or edges_len is not SVGA_EDGES_WORDS; the edges stay as they were

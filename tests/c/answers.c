@@ -219,6 +219,37 @@ static void fences(void) {
     IS(ring[SVGA_FIFO_FENCE], 12); // before the fault
 }
 
+// In a mode of two rows the third is offscreen: fills and copies reach it, UPDATE and pictures do not.
+static void offscreen(void) {
+    uint32_t edges[SVGA_EDGES_WORDS];
+    reset_ring(SVGA_RING_START_MIN, SVGA_RING_START_MIN);
+    IS(put(SVGA_REG_CONFIG_DONE, 1), SVGA_ANSWER_TAKEN);
+    IS(put(SVGA_REG_HEIGHT, HEIGHT - 1), SVGA_ANSWER_TAKEN);
+    IS(svga_offscreen(device, SVGA_DEVICE_WORDS, edges, SVGA_EDGES_WORDS), SVGA_ANSWER_TAKEN);
+    IS(edges[0], 0);
+    IS(edges[1], HEIGHT - 1);
+    IS(edges[2], WIDTH);
+    IS(edges[3], HEIGHT);
+    IS(get(SVGA_REG_CAPABILITIES) & SVGA_CAP_OFFSCREEN_1, SVGA_CAP_OFFSCREEN_1);
+    APPEND(SVGA_CMD_RECT_FILL, 3, 0, 0, WIDTH, 1);
+    APPEND(SVGA_CMD_RECT_COPY, 0, 0, 0, 2, WIDTH, 1); // kept ..
+    APPEND(SVGA_CMD_RECT_FILL, 4, 0, 0, WIDTH, 2);
+    APPEND(SVGA_CMD_RECT_COPY, 0, 2, 0, 1, WIDTH, 1); // .. and shown again, in the row below
+    APPEND(SVGA_CMD_RECT_ROP_FILL, 1, 2, 1, UINT32_MAX, UINT32_MAX, SVGA_ROP_XOR);
+    APPEND(SVGA_CMD_UPDATE, 0, 2, WIDTH, 1);
+    IS(run(9), both(SVGA_ANSWER_DRAINED, 6));
+    for (int i = 0; i < WIDTH; i++) {
+        IS(screen[i], 4);
+        IS(screen[WIDTH + i], i < 2 ? 3 : 3 ^ 1);
+        IS(screen[2 * WIDTH + i], i < 2 ? 3 : 3 ^ 1);
+    }
+    output[2 * WIDTH] = 99;
+    IS(picture(), SVGA_ANSWER_TAKEN);
+    IS(output[WIDTH], 3);
+    IS(output[2 * WIDTH], 99);
+    IS(put(SVGA_REG_HEIGHT, HEIGHT), SVGA_ANSWER_TAKEN);
+}
+
 static void appending(void) {
     reset_ring(SVGA_RING_START_MIN, SVGA_RING_START_MIN);
     for (uint32_t i = 0; i < SVGA_RING_BYTES_MIN / 4 - 1; i++) IS(svga_append(ring, WORDS, i), SVGA_APPEND_TAKEN);
@@ -309,6 +340,7 @@ int main(void) {
     saving();
     faults();
     fences();
+    offscreen();
     appending();
     appending_commands();
     printf("answers: %d checks, %d failed\n", checks, failures);

@@ -196,7 +196,21 @@ impl Adapter {
         Ok(Picture { width, height, pixels: &self.output[..width as usize * height as usize] })
     }
 
-    /// The offscreen rectangle: [`Device::offscreen`].
+    /// The offscreen rectangle: [`Device::offscreen`]. What is kept there can be shown again:
+    ///
+    /// ```
+    /// # use svga::{Adapter, Command, Rect};
+    /// # fn main() -> Result<(), svga::Error> {
+    /// let mut adapter = Adapter::new(10_256, 32 * 40)?; // pixels for 40 rows of 32
+    /// adapter.start(32, 32)?; // eight rows are left
+    /// let kept = adapter.offscreen().top;
+    /// adapter.submit(&Command::RectFill { colour: 0x3399FF, to: Rect::new(0, kept, 32, 8) })?;
+    /// adapter.submit(&Command::RectCopy { sx: 0, sy: kept, to: Rect::new(0, 24, 32, 8) })?;
+    /// adapter.run(1000)?;
+    /// assert_eq!(adapter.picture()?.pixel(31, 31), Some(0x3399FF));
+    /// # Ok(())
+    /// # }
+    /// ```
     pub fn offscreen(&self) -> Edges {
         self.device.offscreen()
     }
@@ -241,7 +255,7 @@ impl Adapter {
         &mut self.framebuffer
     }
 
-    /// The screen, without the cursor.
+    /// The screen, without the cursor: the mode's rows, then the offscreen ones.
     pub fn screen(&self) -> &[u32] {
         &self.screen
     }

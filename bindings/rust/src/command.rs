@@ -2,7 +2,8 @@
 
 use crate::{cmd, limit, ring, rop, Error, Flaw, Memory};
 
-/// A rectangle: unsigned, cut to the mode by the device. `x + w` never wraps.
+/// A rectangle: unsigned, cut by the device. `x + w` never wraps. An update is cut to the mode; a fill or a copy, both its source and where
+/// it goes, to the mode and the offscreen rows behind it ([`crate::Device::offscreen`]).
 #[derive(Clone, Copy, Debug, PartialEq, Eq, Hash)]
 pub struct Rect {
     /// The left column.

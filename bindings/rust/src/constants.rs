@@ -22,7 +22,7 @@ pub const CURSOR_WORDS: usize = 4096;
 /// The words of the offscreen rectangle's edges.
 pub const EDGES_WORDS: usize = 4;
 /// What the register CAPABILITIES reads: all bits of [`cap`].
-pub const CAPABILITIES: u32 = 0x2D3;
+pub const CAPABILITIES: u32 = 0x12D3;
 /// What `svga_append` answers where the word was taken.
 pub const APPEND_TAKEN: u32 = 0;
 /// What `svga_append` answers where the ring is full or its words 0 to 3 are unusable.
@@ -200,6 +200,8 @@ numbers! {
     CURSOR_BYPASS_2 = 0x80;
     /// DEFINE_ALPHA_CURSOR.
     ALPHA_CURSOR = 0x200;
+    /// Fills and copies reach the offscreen rectangle: [`crate::Device::offscreen`].
+    OFFSCREEN_1 = 0x1000;
 }
 
 numbers! {
@@ -218,7 +220,8 @@ numbers! {
 }
 
 numbers! {
-    /// Command numbers; [`crate::Command`] builds the words.
+    /// Command numbers; [`crate::Command`] builds the words. Updates are cut to the mode, fills and copies to the mode and the offscreen
+    /// rows behind it.
     cmd, "SVGA_CMD_",
     /// x y w h: framebuffer pixels come to the screen.
     UPDATE = 1;

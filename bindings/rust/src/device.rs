@@ -21,14 +21,15 @@ pub struct Lent<'a> {
     pub ring: &'a mut [u32],
     /// The framebuffer: a word for each pixel. No call changes it.
     pub framebuffer: &'a [u32],
-    /// The screen: a word for each pixel.
+    /// The screen: a word for each pixel, those of the mode first.
     pub screen: &'a mut [u32],
     /// The cursor image: [`CURSOR_WORDS`] words.
     pub cursor: &'a mut [u32],
 }
 
-/// The usable offscreen rectangle: the rows of the screen's memory behind the mode, as wide as the mode. Right and bottom are excluded;
-/// right is 8 · BYTES_PER_LINE / BITS_PER_PIXEL, top FB_SIZE / BYTES_PER_LINE rounded up, bottom VRAM_SIZE / BYTES_PER_LINE.
+/// The usable offscreen rectangle: the rows of the screen's memory behind the mode, as wide as the mode. Fills and copies read and write
+/// them as they do the mode's; no update reaches them, and no picture shows them. Right and bottom are excluded; right is
+/// 8 · BYTES_PER_LINE / BITS_PER_PIXEL, top FB_SIZE / BYTES_PER_LINE rounded up, bottom VRAM_SIZE / BYTES_PER_LINE.
 #[derive(Clone, Copy, Debug, PartialEq, Eq, Hash)]
 pub struct Edges {
     /// The first column.
@@ -212,7 +213,7 @@ impl Device {
         }
     }
 
-    /// The usable offscreen rectangle. It may be empty.
+    /// The usable offscreen rectangle. It is empty where the mode takes all pixels: make the device for more to have rows there.
     pub fn offscreen(&self) -> Edges {
         let mut edges = [0; EDGES_WORDS];
         // the device is well-formed and the edges are four words: taken

@@ -570,6 +570,30 @@ fn the_offscreen_rectangle() {
     assert!(device.offscreen().is_empty());
 }
 
+/// "Scrolling tide curves want somewhere to keep a strip."
+#[test]
+fn a_strip_is_kept_offscreen_and_scrolled() {
+    let mut adapter = Adapter::new(MEMORY, 8 * 6 + 5).unwrap();
+    adapter.framebuffer_mut().fill(9);
+    adapter.start(8, 3).unwrap();
+    let Edges { left, top, right, bottom } = adapter.offscreen();
+    assert_eq!((left, top, right, bottom), (0, 3, 8, 6));
+    assert_eq!(adapter.read(reg::CAPABILITIES).unwrap() & cap::OFFSCREEN_1, cap::OFFSCREEN_1);
+    let copy = |sx, sy, x, y, w, h| Command::RectCopy { sx, sy, to: Rect::new(x, y, w, h) };
+    for column in 0..8 {
+        adapter.submit(&fill(column, column, top, 1, u32::MAX)).unwrap();
+    }
+    for step in [copy(1, top, 0, top, 7, 3), fill(8, 7, top, 1, 3), copy(0, top, 0, 0, 8, 3), Command::Update(Rect::new(0, top, 8, 3))] {
+        adapter.submit(&step).unwrap();
+    }
+    assert_eq!(adapter.run(u32::MAX), run_of(End::Drained, 12));
+    for row in adapter.screen()[..48].chunks(8) {
+        assert_eq!(row, [1, 2, 3, 4, 5, 6, 7, 8]);
+    }
+    assert_eq!(adapter.screen()[48..], [0; 5], "words behind the last whole row are never painted");
+    assert_eq!(adapter.picture().unwrap().pixels.len(), 24);
+}
+
 #[test]
 fn fences_pass_and_wrap() {
     let mut adapter = started();

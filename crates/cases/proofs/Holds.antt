@@ -4,7 +4,7 @@ use mathlib.Core.Path.{refl}
 use Rattle.geometry.specs.Pixels.{inRect, inArea, tabulate, painted, paintedIf}
 use Rattle.pixel.specs.RasterOperation.{rasterOp}
 use Rattle.pixel.specs.Blend.{blendPixel}
-use Rattle.raster.specs.Painters.{rowsFit, filled, moves, copied}
+use Rattle.raster.specs.Painters.{rowsFit, filledIn, filled, moves, copiedIn, copied}
 use Rattle.cursor.specs.Plane.{shapeGood, covers}
 use Rattle.execution.specs.Table.{unless, turnOf}
 use Rattle.execution.specs.Turns.{runs}
@@ -12,5 +12,5 @@ use Rattle.command.specs.Commands.{entry, kindOf, commands}
 use Rattle.cases.specs.Cases.{AllEqual, cases}
 
 pub cases-hold : AllEqual cases
-unfolding cases inRect inArea tabulate painted paintedIf rasterOp blendPixel rowsFit filled moves copied shapeGood covers unless turnOf runs entry kindOf commands
+unfolding cases inRect inArea tabulate painted paintedIf rasterOp blendPixel rowsFit filledIn filled moves copiedIn copied shapeGood covers unless turnOf runs entry kindOf commands
 cases-hold = (refl, (refl, (refl, (refl, (refl, (refl, (refl, (refl, (refl, (refl, tt))))))))))

@@ -10,10 +10,10 @@ use Prim.Native.Nat.{ℕ}
 use native.Mathlib.Omega.{arith}
 use lib.ListN.{length, getD, replicate}
 use borrow.Table.Steps.{cases}
-use Rattle.geometry.specs.Pixels.{inRect, inArea, tabulate, painted, paintedIf}
+use Rattle.geometry.specs.Pixels.{inRect, tabulate, painted, paintedIf}
 use Rattle.geometry.proofs.Tests.{not-both}
 use Rattle.pixel.specs.RasterOperation.{rasterOp}
-use Rattle.raster.specs.Painters.{rowsFit, filled}
+use Rattle.raster.specs.Painters.{rowsFit, filledIn}
 use Rattle.cursor.specs.declared.Defined.the-variants.{Undefined}
 use Rattle.execution.specs.declared.Cause.{Cause}
 use Rattle.execution.specs.declared.Cause.the-variants.{NotOffered}
@@ -26,7 +26,7 @@ use Rattle.execution.specs.Queue.{fresh, offer, try, act, play}
 use Rattle.execution.proofs.QueueLaws.{play-ops, demand3, demand3-unique}
 use Rattle.command.specs.Commands.{entry, kindOf, commands}
 use Rattle.command.proofs.Laws.{command-laws}
-use Rattle.effect.specs.Effects.{Scene, scene, Machine, screenAfter, postedAfter, done}
+use Rattle.effect.specs.Effects.{Scene, scene, Machine, reached, screenAfter, postedAfter, done}
 use Rattle.ring.specs.declared.Ring.{Ring}
 use Rattle.ring.specs.Acceptance.{stopOf, offsetUsable, boundsUsable, usable}
 use Rattle.ring.specs.Append.{movedOn, canAppend, appendTo, appendOf}
@@ -121,12 +121,22 @@ module _ (s : Scene) (m : Machine) where
 
 -- a fill was counted, and the screen is as before: one pixel, colour 5
 pub unpainted : (cursor : List ℕ) (f : Option Cause) (z : Line Machine) → z .machine .screen ≡ 0 ∷ []
-    → Claimed (scene 1 1 [] false) (machine (record { fence = 0; defined = Undefined }) (0 ∷ []) cursor 0)
+    → Claimed (scene (record { width = 1; height = 1; rows = 1 }) [] false) (machine (record { fence = 0; defined = Undefined }) (0 ∷ []) cursor 0)
     (answering (ran spent 1) (map append (2 ∷ 5 ∷ 0 ∷ 0 ∷ 1 ∷ 1 ∷ []) ++ run 1 ∷ [])) z f → ⊥
-unfolding straight unless turnOf taken counted fed countAll entry kindOf commands done screenAfter rowsFit filled paintedIf painted tabulate inArea inRect rasterOp
+unfolding straight unless turnOf taken counted fed countAll entry kindOf commands done screenAfter reached rowsFit filledIn paintedIf painted tabulate inRect rasterOp
 unpainted cursor f z old d =
     let new : z .machine .screen ≡ 5 ∷ [] = ap (λ (a : Line Machine). a .machine .screen) (d .same) in
     let n : _≡_ {A = ℕ} 5 0 = ap (λ (l : List ℕ). getD l 0 0) (sym new ∙ old) in
+    omega arith
+
+-- a fill of two rows was counted, and painted the mode's alone: one column, and an offscreen row behind the mode's
+pub offscreen-unpainted : (cursor : List ℕ) (f : Option Cause) (z : Line Machine) → z .machine .screen ≡ 5 ∷ 0 ∷ []
+    → Claimed (scene (record { width = 1; height = 1; rows = 2 }) [] false) (machine (record { fence = 0; defined = Undefined }) (0 ∷ 0 ∷ []) cursor 0)
+    (answering (ran spent 1) (map append (2 ∷ 5 ∷ 0 ∷ 0 ∷ 1 ∷ 2 ∷ []) ++ run 1 ∷ [])) z f → ⊥
+unfolding straight unless turnOf taken counted fed countAll entry kindOf commands done screenAfter reached rowsFit filledIn paintedIf painted tabulate inRect rasterOp
+offscreen-unpainted cursor f z old d =
+    let new : z .machine .screen ≡ 5 ∷ 5 ∷ [] = ap (λ (a : Line Machine). a .machine .screen) (d .same) in
+    let n : _≡_ {A = ℕ} 5 0 = ap (λ (l : List ℕ). getD l 1 0) (sym new ∙ old) in
     omega arith
 
 -- ---- history/Demand.Demand and Shown: the smallest ring, from any start

@@ -65,7 +65,7 @@ size head = sizeBy (kindIn head) head
 abbrev pub answer : List ℕ → ℕ
 answer waiting =
     answerNumber
-    (runs (turnOf smallest (table (scene 4 1 [] false))) 1
+    (runs (turnOf smallest (table (scene (record { width = 4; height = 1; rows = 1 }) [] false))) 1
     (record { words = waiting; machine = machine (record { fence = 0; defined = Undefined }) screen [] 0 }) .answer)
 
 -- The corner of case 9, X 4294967295 and hotspot 0.

@@ -74,13 +74,14 @@ freshReads =
     ∷ (9 reads 0xFF0000)
     ∷ (10 reads 0xFF00)
     ∷ (11 reads 0xFF)
-    -- "12 BYTES_PER_LINE 4·width, 13, 14 and 18 zero, 15 VRAM_SIZE 4·P, 16 FB_SIZE 4·width·height, 17 CAPABILITIES 0x2D3, 19 MEM_SIZE M"
+    -- "12 BYTES_PER_LINE 4·width, 13, 14 and 18 zero, 15 VRAM_SIZE 4·P, 16 FB_SIZE 4·width·height, 17 CAPABILITIES 0x2D3, 19 MEM_SIZE M"; document 02, P5:
+    -- "CAPABILITIES gains 0x1000"
     ∷ (12 reads 2560)
     ∷ (13 reads 0)
     ∷ (14 reads 0)
     ∷ (15 reads 1228800)
     ∷ (16 reads 1228800)
-    ∷ (17 reads 0x2D3)
+    ∷ (17 reads 0x12D3)
     ∷ (18 reads 0)
     ∷ (19 reads 65536)
     -- "not configured, .., not busy, .., other written registers 0"; "SYNC reads 0."
@@ -141,7 +142,7 @@ setReads =
     ∷ (14 reads 0)
     ∷ (15 reads 4000000)
     ∷ (16 reads 1920000)
-    ∷ (17 reads 0x2D3)
+    ∷ (17 reads 0x12D3)
     ∷ (18 reads 0)
     ∷ (19 reads 10256)
     ∷ (20 reads 1)

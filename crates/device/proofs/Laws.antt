@@ -3,12 +3,14 @@
 use mathlib.Core.Path.{_≡_}
 use mathlib.Core.Bool.{true}
 use Prim.Native.Nat.{_*_, _%_, _≤_}
-use native.Mathlib.Nat.{mul-le-mul}
+use native.Mathlib.Nat.{mul-le-mul, mul-comm, le-div-iff-mul-le, mul-div-le}
 use native.Mathlib.Omega.{arith}
-use borrow.Author.Tests.{eqb-true, leb-true}
+use borrow.Author.Tests.{eqb-true, leb-true, le-leb, lt-ltb}
 use Rattle.geometry.proofs.Tests.{both}
+use Rattle.raster.specs.Painters.{rowsFit}
 use Rattle.device.specs.declared.Device.{Device}
-use Rattle.device.specs.Device.{memoryOf, pixelsOf, widthOf, heightOf, definedOf, sizesGood, modeGood, conditionGood, definedGood, wellFormed}
+use Rattle.device.specs.Device.{memoryOf, pixelsOf, widthOf, heightOf, rowsOf, definedOf}
+use Rattle.device.specs.Device.{sizesGood, modeGood, modeFits, conditionGood, definedGood, wellFormed}
 
 pub record WellFormed (d : Device) : Type 0 where
   pub memory-words : memoryOf d % 4 ≡ 0
@@ -53,3 +55,14 @@ well-formed d e =
 -- the mode's bytes fit 32 bits
 pub fb-size-fits : (d : Device) → WellFormed d → 4 * widthOf d * heightOf d ≤ 16384000
 fb-size-fits d w = mul-le-mul {n₂ = 10240} {m₂ = 1600} (omega arith) (w .height-high)
+
+-- ---- the rows that fills and copies reach
+
+-- the mode's rows are among them, where it fits
+pub mode-in-rows : (d : Device) → WellFormed d → modeFits d ≡ true → heightOf d ≤ rowsOf d
+mode-in-rows d w fits = le-div-iff-mul-le (w .width-low) .1 (rw (mul-comm (heightOf d) (widthOf d)) (leb-true _ _ fits))
+
+-- they lie in the lent screen, so that no painter of a run leaves it alone for its rows
+pub rows-fit : (d : Device) → WellFormed d → rowsFit (widthOf d) (rowsOf d) (pixelsOf d) ≡ true
+unfolding rowsFit
+rows-fit d w = rw (lt-ltb 0 (widthOf d) (w .width-low), le-leb _ _ (w .width-high)) (le-leb _ _ (mul-div-le (pixelsOf d) (widthOf d)))

@@ -3,6 +3,7 @@
 use Prim.Native.Nat.{ℕ, _*_, _/_, _%_}
 use mathlib.Core.Bool.{Bool, true, false, cond, not, _&&_}
 use lib.Dec.{eqb, leb}
+use Rattle.geometry.specs.declared.Frame.{Frame}
 use Rattle.raster.specs.Painters as Painters
 use Rattle.ring.specs.Waiting.{placed}
 use Rattle.cursor.specs.Plane.{shapeGood}
@@ -27,6 +28,15 @@ widthOf d = d .registers .width
 
 abbrev pub heightOf : Device → ℕ
 heightOf d = d .registers .height
+
+-- Document 02, P5: "the mode joined with P4's rectangle, in the lent screen": as many rows of the mode's width as lie whole in P pixels. Behind them P mod
+-- width pixels are left, which nothing paints. (A width of 0, which no device has, gives none.)
+abbrev pub rowsOf : Device → ℕ
+rowsOf d = pixelsOf d / widthOf d
+
+-- What commands reach of the screen: UPDATE the mode, fills and copies all these rows.
+abbrev pub frameOf : Device → Frame
+frameOf d = record { width = widthOf d; height = heightOf d; rows = rowsOf d }
 
 abbrev pub enabledOf : Device → Bool
 enabledOf d = d .registers .enable

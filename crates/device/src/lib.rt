@@ -2,9 +2,10 @@
 use cursor::Defined;
 use effect::Marks;
 use execution::Cause;
+use geometry::Frame;
 use ring::Ring;
 ghost use mathlib.Core.Path.{_≡_};
-ghost use Rattle.device.specs.Device.{sizesGood, modeGood, conditionGood, definedGood, wellFormed, modeFits, conditionOf};
+ghost use Rattle.device.specs.Device.{frameOf, sizesGood, modeGood, conditionGood, definedGood, wellFormed, modeFits, conditionOf};
 ghost use Rattle.device.specs.Making.{creation, madeOf};
 
 // M is from MIN_MEMORY to MAX_MEMORY bytes, P at most MAX_PIXELS.
@@ -210,6 +211,29 @@ pub fn mode_fits(d: Device) -> bool
     let sizes = d.sizes;
     let g = d.registers;
     g.width as u64 * g.height as u64 <= sizes.pixels as u64
+}
+
+// What commands reach of the screen: the mode, and behind it the rows that still lie whole in P pixels.
+// Rules out: a row that lies in P pixels in part only; the mode's height for all rows.
+pub fn frame_of(d: Device) -> Frame
+    ensures { λ r. ⌜ r ≡ frameOf d ⌝ }
+{
+    let sizes = d.sizes;
+    let g = d.registers;
+    let width = g.width;
+    let height = g.height;
+    if width == 0 {
+        return Frame {
+            width,
+            height,
+            rows: 0,
+        };
+    }
+    Frame {
+        width,
+        height,
+        rows: sizes.pixels / width,
+    }
 }
 
 // The condition: idle, running with the remembered ring, or the fault that stands.

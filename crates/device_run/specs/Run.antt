@@ -14,7 +14,7 @@ use Rattle.cursor.specs.Plane.{imageWords}
 use Rattle.ring.specs.declared.Ring.{Ring}
 use Rattle.ring.specs.Acceptance.{nextOf}
 use Rattle.ring.specs.Waiting.{waiting, carried}
-use Rattle.effect.specs.Effects.{Scene, scene, Machine}
+use Rattle.effect.specs.Effects.{Scene, Machine}
 use Rattle.run.specs.Run.{RingOutcome, machine, table, postsIn, postedIn, runIn}
 use Rattle.device.specs.declared.Condition.{Condition}
 use Rattle.device.specs.declared.Condition.the-variants.{Idle, Running, Faulted}
@@ -22,7 +22,8 @@ use Rattle.device.specs.declared.Device.{Device}
 use Rattle.device_run.specs.declared.Ran.{Ran}
 use Rattle.device_run.specs.declared.RunAnswer.{RunAnswer}
 use Rattle.device_run.specs.declared.RunAnswer.the-variants.{Spent, Ended, WrongLength, Disabled, NotConfigured, FaultStands, TooLarge}
-use Rattle.device.specs.Device.{memoryOf, pixelsOf, widthOf, heightOf, enabledOf, configuredOf, conditionOf, modeFits, wellFormed}
+use Rattle.offscreen.specs.Offscreen.{joined}
+use Rattle.device.specs.Device.{memoryOf, pixelsOf, widthOf, heightOf, rowsOf, enabledOf, configuredOf, conditionOf, modeFits, wellFormed}
 
 -- run: 0 drained, 1 waiting for the rest of a command, 2 budget spent, 10 to 13 a fault, 20 lent length, 21 disabled, 22 not configured, 23 fault
 -- already standing, 24 width·height above P
@@ -112,9 +113,17 @@ settled d o = record {
 abbrev pub machineOf : Device → Lent → Ring → Machine
 machineOf d l g = machine (d .marks) (l .screen) (l .cursor) (postedIn (postsIn g) (l .ring))
 
--- What a run does not change: the device's mode, the lent framebuffer, and whether fences are posted in ring word 6.
+-- What a run does not change: the device's mode, the pixels in the mode or offscreen and their rows, the lent framebuffer, and whether fences are posted in
+-- ring word 6.
 abbrev pub sceneFor : Device → Lent → Ring → Scene
-sceneFor d l g = scene (widthOf d) (heightOf d) (l .framebuffer) (postsIn g)
+sceneFor d l g = record {
+  width = widthOf d;
+  height = heightOf d;
+  rows = rowsOf d;
+  joined = joined d;
+  framebuffer = l .framebuffer;
+  posts = postsIn g;
+}
 
 -- The words that wait from the remembered STOP up to NEXT_CMD, with the machine that they work on.
 abbrev pub lineOf : Device → Lent → Ring → Line Machine

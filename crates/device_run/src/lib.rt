@@ -10,7 +10,9 @@ use run::RunEnd;
 ghost use Rattle.execution.specs.Claim.{ended, answerNumber};
 ghost use Rattle.run.specs.Run.{answerOf};
 ghost use Rattle.device.specs.declared.Condition.the-variants.{Running};
+ghost use Rattle.device.specs.Device.{modeFits, wellFormed};
 ghost use mathlib.Core.Path.{_≡_};
+ghost use mathlib.Core.Bool.{true};
 ghost use Rattle.device_run.specs.Run.{runNumber, lentBefore, lentAfter, ranOf, lentGood, ready};
 ghost use Rattle.device_run.specs.Run.{conditionAfter, busyAfter, runBy, runOf};
 ghost use Rattle.device_run.specs.Settling.{Settles};
@@ -137,7 +139,7 @@ fn settle(d: Device, result: run::RingRun) -> Ran
     }
 }
 
-// A run of a device that has a ring and is not refused.
+// A run of a device that has a ring and is not refused. Its pixels in the mode or offscreen are those of its rows.
 fn run_ring(
     d: Device,
     at: Ring,
@@ -147,21 +149,12 @@ fn run_ring(
     cursor: &mut [u32],
     budget: u32,
 ) -> Ran
+    requires { ⌜ (wellFormed d ≡ true) × (modeFits d ≡ true) ⌝ }
     ensures { λ r. ⌜ ranOf r (lentAfter ring framebuffer screen cursor) ≡ runBy d (lentBefore ring framebuffer screen cursor) budget (Running at) ⌝ }
 {
-    let g = d.registers;
     let marks = d.marks;
-    let result = run::run(
-        at,
-        marks,
-        budget,
-        ring,
-        framebuffer,
-        screen,
-        cursor,
-        g.width,
-        g.height,
-    );
+    let frame = device::frame_of(d);
+    let result = run::run(at, marks, budget, ring, framebuffer, screen, cursor, frame);
     settle(d, result)
 }
 

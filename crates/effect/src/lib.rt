@@ -2,6 +2,7 @@
 // word 6 is the run's to write.
 use command::Action;
 use cursor::Defined;
+use geometry::Frame;
 ghost use mathlib.Core.Path.{_≡_};
 ghost use mathlib.Core.Bool.{Bool};
 ghost use Rattle.raster.specs.Painters.{filled, copied};
@@ -41,15 +42,21 @@ fn copy(
     raster::copy(screen, width, rows, from.x, from.y, area, rop);
 }
 
-// The screen's part of an action, whether fences are posted or not. The mode is width by rows.
-// Rules out: a fill that reads the framebuffer; an update that paints by the raster operation of the command before.
-pub fn draw(action: Action, framebuffer: &[u32], screen: &mut [u32], width: u32, rows: u32)
-    ensures { λ _. ⌜ ((posts : Bool) → now (screen .exit) ≡ screenAfter (scene width rows (now (framebuffer .entry)) posts) action (now (screen .entry))) ⌝ }
+// The screen's part of an action, whether fences are posted or not. An update keeps to the mode; fills and copies reach all rows.
+// Rules out: a fill that reads the framebuffer; an update that paints offscreen rows; a copy that ends at the mode's last row.
+pub fn draw(action: Action, framebuffer: &[u32], screen: &mut [u32], frame: Frame)
+    ensures { λ _. ⌜ ((posts : Bool) → now (screen .exit) ≡ screenAfter (scene frame (now (framebuffer .entry)) posts) action (now (screen .entry))) ⌝ }
 {
     match action {
-        Action::Update(area) => raster::update(framebuffer, screen, width, rows, area),
-        Action::Fill(area, colour, rop) => fill(screen, width, rows, area, colour, rop),
-        Action::Copy(from, area, rop) => copy(screen, width, rows, from, area, rop),
+        Action::Update(area) => raster::update(
+            framebuffer,
+            screen,
+            frame.width,
+            frame.height,
+            area,
+        ),
+        Action::Fill(area, colour, rop) => fill(screen, frame.width, frame.rows, area, colour, rop),
+        Action::Copy(from, area, rop) => copy(screen, frame.width, frame.rows, from, area, rop),
         Action::Define(_) => {}
         Action::Fence(_) => {}
         Action::Nothing => {}

@@ -11,6 +11,13 @@ pub struct Rect {
     pub h: u32,
 }
 
+// What painters reach of a screen: the mode is width by height, and rows are all that its columns go on for, the mode's and those behind it.
+pub struct Frame {
+    pub width: u32,
+    pub height: u32,
+    pub rows: u32,
+}
+
 pub enum Cut {
     Rectangle(Rect),
     Nothing,

@@ -1,10 +1,10 @@
 -- The id gates nothing but what register 0 reads: on worlds that differ in it alone every other call answers, paints and leaves the same.
 -- Assumes nothing.
 use mathlib.Core.Path.{_≡_, refl, sym, ap, ap₂, subst, _∙_}
-use mathlib.Core.Bool.{Bool, true, false, cond}
+use mathlib.Core.Bool.{Bool, true, false, cond, _&&_, _||_}
 use mathlib.Core.List.{List, [], _∷_}
 use Prim.Native.Nat.{ℕ, _/_}
-use lib.Dec.{eqb}
+use lib.Dec.{eqb, leb, ltb}
 use lib.ListN.{length}
 use borrow.Author.Tests.{ne-eqb}
 use borrow.Table.Steps.{cases}
@@ -31,9 +31,9 @@ use Rattle.register_read.specs.Registers.{writableValue, readBy, readOf}
 use Rattle.register_read.specs.AfterWrites.{affects}
 use Rattle.register_read.proofs.Readings.{reads-changed}
 use Rattle.device_run.specs.Run.{Lent, RunOutcome, lentGood, refusedRun, runBy, runOf}
-use Rattle.adapter.specs.declared.Edges.{Edges}
+use Rattle.offscreen.specs.declared.Edges.{Edges}
 use Rattle.adapter.specs.Picture.{Pictured, cursorOver, pictureOf}
-use Rattle.adapter.specs.Offscreen.{offscreenOf}
+use Rattle.offscreen.specs.Offscreen.{offscreenOf, inMode, inOffscreen, joined}
 use Rattle.history.specs.Calls.{World, Call, make, write, read, run, append, submit, picture, offscreen, fence, passed, lend}
 use Rattle.history.specs.Calls.{withDevice, perform, performAll}
 use Rattle.history.specs.OtherId.{withId, SameButId, SameOutcome, NotTheId, NeverTheId, SameHistory}
@@ -121,6 +121,14 @@ module _ (d : Device) (id : ℕ) where
 
   -- ---- runs
 
+  offscreen-other : offscreenOf other ≡ offscreenOf d
+  unfolding offscreenOf
+  offscreen-other = rw well-formed-other
+
+  joined-other : joined other ≡ joined d
+  unfolding joined inMode inOffscreen
+  joined-other = λ i x y. inMode d x y || (let e = offscreen-other i in leb (e .left) x && (ltb x (e .right) && (leb (e .top) y && ltb y (e .bottom))))
+
   module _ (l : Lent) (budget : ℕ) where
     refused-run-other : (a : ℕ) → SameRun (refusedRun d l a) (refusedRun other l a)
     refused-run-other a = record { answer = refl; count = refl; device = refl; lent = refl }
@@ -128,7 +136,7 @@ module _ (d : Device) (id : ℕ) where
     condition-other : (c : Condition) → SameRun (runBy d l budget c) (runBy other l budget c)
     unfolding runBy
     condition-other Idle = refused-run-other 22
-    condition-other (Running g) = record { answer = refl; count = refl; device = refl; lent = refl }
+    condition-other (Running g) = rw joined-other (record { answer = refl; count = refl; device = refl; lent = refl })
     condition-other (Faulted c) = refused-run-other 23
 
     lent-other : lentGood other l ≡ lentGood d l
@@ -149,7 +157,7 @@ module _ (d : Device) (id : ℕ) where
         (refused-run-other 20))
         (refused-run-other 22))
 
-  -- ---- pictures, the offscreen rectangle
+  -- ---- pictures
 
   over-other : (c : Defined) → cursorOver other c ≡ cursorOver d c
   unfolding cursorOver
@@ -159,10 +167,6 @@ module _ (d : Device) (id : ℕ) where
   picture-other : (screen image output : List ℕ) → pictureOf other screen image output ≡ pictureOf d screen image output
   unfolding pictureOf
   picture-other screen image output = rw (well-formed-other, over-other (definedOf d))
-
-  offscreen-other : offscreenOf other ≡ offscreenOf d
-  unfolding offscreenOf
-  offscreen-other = rw well-formed-other
 
 -- ---- every call
 

@@ -1,17 +1,17 @@
 -- What a run keeps: a device stays well-formed, lent memories keep their lengths, every ring word but words 3 and 6 stays, word 6 where no FENCE is
--- posted, and every cursor word that no executed command fills; and no run that is not refused answers 23.
+-- posted, every cursor word that no executed command fills, and every screen place that its commands do not reach; and no run that is not refused answers 23.
 -- Assumes nothing.
-use mathlib.Core.Path.{_≡_, refl, sym, ap, _∙_}
-use mathlib.Core.Bool.{Bool, true, false, _&&_, true≢false}
+use mathlib.Core.Path.{_≡_, refl, sym, ap, subst, _∙_}
+use mathlib.Core.Bool.{Bool, true, false, true≢false}
 use mathlib.Core.Option.{Option, none, some}
 use mathlib.Core.List.{List, [], _∷_, _++_}
 use Prim.Native.Nat.{ℕ, zero, suc, _+_, _-_, _*_, _/_, _≤_, _<_, max}
-use native.Mathlib.Nat.{mul-le-mul, mul-comm, le-div-iff-mul-le, le-max-left, le-max-right}
+use native.Mathlib.Nat.{mul-le-mul, le-max-left, le-max-right}
 use native.Mathlib.Omega.{arith}
-use lib.Dec.{eqb, ltb}
-use lib.ListN.{length, getD, take, drop, length-take, length-drop, length-append, List·getD-eq-default}
+use lib.Dec.{eqb}
+use lib.ListN.{length, getD, take, drop, length-take, length-drop, length-append}
 use lib.Seq.{getD-append-add, getD-drop}
-use borrow.Author.Tests.{eqb-true, ltb-true, ltb-false, eq-eqb, le-ltb}
+use borrow.Author.Tests.{eqb-true, eq-eqb}
 use borrow.Table.Steps.{cases}
 use Rattle.geometry.proofs.Tests.{both, by-cond}
 use Rattle.execution.specs.declared.End.{End}
@@ -27,10 +27,6 @@ use Rattle.ring.specs.Acceptance.{nextOf}
 use Rattle.ring.specs.Waiting.{ahead, between, words, waiting, carried, placed, nextGood}
 use Rattle.ring.proofs.Laws.{placed-when, when-placed}
 use Rattle.ring.proofs.WaitingLaws.{InRing, ahead-in, between-carried, length-words}
-use Rattle.geometry.specs.declared.Rect.{Rect}
-use Rattle.geometry.specs.Pixels.{inRect, inArea}
-use Rattle.raster.specs.Painters.{moves}
-use Rattle.raster.proofs.Laws.{length-filled, length-updated, length-copied, fill-outside, update-outside, copy-outside}
 use Rattle.cursor.specs.Plane.{shapeGood}
 use Rattle.command.specs.declared.Action.{Action}
 use Rattle.command.specs.declared.Action.the-variants as A
@@ -40,19 +36,21 @@ use Rattle.command.specs.Commands.{entry, kindIn}
 use Rattle.command.specs.Findings.{findsIn, onMachine}
 use Rattle.command.proofs.Rules.{turn-found}
 use Rattle.effect.specs.declared.Marks.{Marks}
-use Rattle.effect.specs.Effects.{Scene, Machine, screenAfter, definedAfter, cursorAfter, marksAfter, done}
+use Rattle.effect.specs.Effects.{Scene, Machine, Paints, definedAfter, cursorAfter, marksAfter, done}
+use Rattle.effect.proofs.Reach.{screen-length, joinedAt, ModeJoined, others-keep-to-mode, reach-ends}
 use Rattle.run.specs.Turns.{Ready}
-use Rattle.run.specs.Run.{knownOf, table, turnIn, postsIn, postedIn, RingOutcome, left, runWords, fitting, runIn}
+use Rattle.run.specs.Run.{knownOf, table, turnIn, NoPainting, postsIn, postedIn, RingOutcome, left, runWords, fitting, runIn}
 use Rattle.run.proofs.Laws.{next-says}
-use Rattle.run.proofs.Fences.{runs-keep, runs-none, Tells, left-tells, still-tells}
+use Rattle.run.proofs.Fences.{runs-without, runs-keep, runs-none, Tells, left-tells, still-tells}
 use Rattle.run.proofs.Found.{Found, found}
 use Rattle.run.proofs.Posting.{clear-min, length-written, written-other}
 use Rattle.run.proofs.RunLaws.{fitting-placed, turn-kept}
 use Rattle.device.specs.declared.Condition.{Condition}
 use Rattle.device.specs.declared.Condition.the-variants.{Idle, Running, Faulted}
 use Rattle.device.specs.declared.Device.{Device}
-use Rattle.device.specs.Device.{memoryOf, pixelsOf, widthOf, heightOf, conditionGood, definedGood, modeFits, wellFormed}
+use Rattle.device.specs.Device.{memoryOf, pixelsOf, conditionGood, definedGood, modeFits, wellFormed}
 use Rattle.device_run.specs.Run.{Lent, RunOutcome, lentGood, conditionAfter, settled, machineOf, sceneFor, ran, refusedRun, runBy, runOf}
+use Rattle.offscreen.proofs.Joined.{mode-joined}
 use Rattle.device.proofs.Laws.{well-formed}
 use Rattle.device.proofs.Kept.{well-formed-of}
 use Rattle.history.specs.Harm.{pixelsBy, largestCursor}
@@ -160,61 +158,12 @@ good-action Foreign w e = tt
 good-found : (a : Action) (n : ℕ) (w : List ℕ) → Found a n w → GoodAction a
 good-found a n w f = rw (← (f .action)) (good-action (kindIn w) w (f .head))
 
--- A machine with a screen as long as this one, and as this one from place `mode` on, a cursor image of 4,096 words, and a defined cursor that is good.
-pub record Sound (mode : ℕ) (screen : List ℕ) (m : Machine) : Type 0 where
+-- A machine with a screen as long as this one, and as this one at each place out of reach, a cursor image of 4,096 words, and a defined cursor that is good.
+pub record Sound (reach : ℕ → Bool) (screen : List ℕ) (m : Machine) : Type 0 where
   pub same-length : length (m .screen) ≡ length screen
-  pub beyond-mode : (k : ℕ) → mode ≤ k → getD (m .screen) k 0 ≡ getD screen k 0
+  pub beyond-reach : (k : ℕ) → reach k ≡ false → getD (m .screen) k 0 ≡ getD screen k 0
   pub cursor : length (m .cursor) ≡ 4096
   pub defined : definedGood (m .marks .defined) ≡ true
-
-screen-length : (s : Scene) (a : Action) (screen : List ℕ) → length (screenAfter s a screen) ≡ length screen
-unfolding screenAfter
-screen-length s (A.Update r) screen = length-updated (s .width) (s .rows) r (s .framebuffer) screen
-screen-length s (A.Fill r colour rop) screen = length-filled (s .width) (s .rows) r colour rop screen
-screen-length s (A.Copy from r rop) screen = length-copied (s .width) (s .rows) (from .x) (from .y) r rop screen
-screen-length s (A.Define shape) screen = refl
-screen-length s (A.Fence number) screen = refl
-screen-length s A.Nothing screen = refl
-
--- places from width·rows on are in none of the rows
-pub beyond-rows : (width rows k : ℕ) → 0 < width → width * rows ≤ k → ltb (k / width) rows ≡ false
-beyond-rows width rows k wide h = le-ltb (k / width) rows (le-div-iff-mul-le wide .1 (rw (mul-comm rows width) h))
-
-and-no : (a b : Bool) → b ≡ false → a && b ≡ false
-and-no true b e = e
-and-no false b e = refl
-
-beyond-area : (width rows : ℕ) (r : Rect) (k : ℕ) → 0 < width → width * rows ≤ k → inArea width rows r k ≡ false
-unfolding inArea
-beyond-area width rows r k wide h = and-no (inRect width (r .x) (r .y) (r .w) (r .h) k) (ltb (k / width) rows) (beyond-rows width rows k wide h)
-
-beyond-moves : (width rows sx sy : ℕ) (r : Rect) (k : ℕ) → 0 < width → width * rows ≤ k → moves width rows sx sy r k ≡ false
-unfolding moves
-beyond-moves width rows sx sy r k wide h = rw (beyond-area width rows r k wide h)
-
--- "No pixel outside the cut destination changes": none behind the mode
-module _ (s : Scene) (screen : List ℕ) (k : ℕ) (wide : 0 < s .width) (h : s .width * s .rows ≤ k) where
-  outside : (r : Rect) → inArea (s .width) (s .rows) r k ≡ false
-  outside r = beyond-area (s .width) (s .rows) r k wide h
-
-  screen-there : (a : Action) → k < length screen → getD (screenAfter s a screen) k 0 ≡ getD screen k 0
-  unfolding screenAfter
-  screen-there (A.Update r) l = update-outside (s .width) (s .rows) r screen k l (s .framebuffer) (outside r)
-  screen-there (A.Fill r colour rop) l = fill-outside (s .width) (s .rows) r screen k l colour rop (outside r)
-  screen-there (A.Copy from r rop) l =
-      copy-outside (s .width) (s .rows) r screen k l (from .x) (from .y) rop (beyond-moves (s .width) (s .rows) (from .x) (from .y) r k wide h)
-  screen-there (A.Define shape) l = refl
-  screen-there (A.Fence number) l = refl
-  screen-there A.Nothing l = refl
-
-  screen-beyond : (a : Action) → getD (screenAfter s a screen) k 0 ≡ getD screen k 0
-  screen-beyond a =
-      cases (ltb k (length screen))
-      (λ t. screen-there a (ltb-true k (length screen) t))
-      (λ f.
-      let l : length screen ≤ k = ltb-false k (length screen) f in
-      List·getD-eq-default (screenAfter s a screen) 0 (rw (screen-length s a screen) l)
-      ∙ sym (List·getD-eq-default screen 0 l))
 
 cursor-length : (a : Action) (w cursor : List ℕ) → Ready a (length w) → length cursor ≡ 4096 → length (cursorAfter a w cursor) ≡ 4096
 unfolding cursorAfter
@@ -238,16 +187,16 @@ defined-kept (A.Define s) m g e = g
 defined-kept (A.Fence number) m g e = e
 defined-kept A.Nothing m g e = e
 
-module _ (s : Scene) (screen : List ℕ) (wide : 0 < s .width) where
+module _ (s : Scene) (screen : List ℕ) (wide : 0 < s .width) (mode : ModeJoined s) where
   -- sound in this scene
   abbrev Right : Machine → Type 0
-  Right = Sound (s .width * s .rows) screen
+  Right = Sound (joinedAt s) screen
 
   sound-done : (m : Machine) (a : Action) (n : ℕ) (w : List ℕ) → Found a n w → Right m → Right (done s a (take n w) m)
   unfolding done
   sound-done m a n w f h = record {
     same-length = screen-length s a (m .screen) ∙ h .same-length;
-    beyond-mode = λ k l. screen-beyond s (m .screen) k wide l a ∙ h .beyond-mode k l;
+    beyond-reach = λ k l. reach-ends s a (m .screen) k mode wide l ∙ h .beyond-reach k l;
     cursor = ap {B = ℕ} (λ (l : List ℕ). length l) (f .own (m .cursor)) ∙ cursor-length a w (m .cursor) (f .ready) (h .cursor);
     defined = defined-kept a (m .marks) (good-found a n w f) (h .defined);
   }
@@ -255,14 +204,6 @@ module _ (s : Scene) (screen : List ℕ) (wide : 0 < s .width) where
   -- an executed turn keeps a sound machine
   pub sound-exec : (cap : ℕ) (m t : Machine) (w : List ℕ) (n : ℕ) → turnOf cap (table s) m w ≡ exec n t → Right m → Right t
   sound-exec cap m t w n r h = let e = exec-did s cap m t w n r in rw (e .left-by) (sound-done m (e .action) n w (e .is-found) h)
-
-  -- and so does one of a run
-  pub sound-turn : (g : Ring) (after : ℕ) (m t : Machine) (w : List ℕ) (n : ℕ) → turnIn s g after m w ≡ exec n t → Right m → Right t
-  unfolding turnIn unless
-  sound-turn g after m t w n q h =
-      cases (nextGood g after)
-      (λ y. sound-exec (carried (g .min) (g .max)) m t w n (rw y at q) h)
-      (λ f. absurd (no-exec (rw f at q)))
 
 -- no turn executes where NEXT_CMD is unusable
 never-next : (s : Scene) (g : Ring) (after : ℕ) → nextGood g after ≡ false → (m : Machine) (w : List ℕ) (n : ℕ) (t : Machine) → turnIn s g after m w ≡ exec n t → ⊥
@@ -328,6 +269,22 @@ module _ (s : Scene) (cap i : ℕ) where
           let most : max own rest ≤ i = rw (runs-exec turns b a n t q, largest-exec k a n t q) at l in
           rw (runs-exec turns b a n t q)
           (ih n t (omega (arith, le-max-right own rest)) ∙ exec-filled (a .machine) t (a .words) n q (omega (arith, le-max-left own rest)))
+
+-- ---- the screen places behind the mode
+
+module _ (s : Scene) (cap k : ℕ) (wide : 0 < s .width) (far : s .width * s .height ≤ k) where
+  exec-unpainted : (m t : Machine) (w : List ℕ) (n : ℕ) → turnOf cap (table s) m w ≡ exec n t → (Paints (entry (kindIn w) .action w) → ⊥)
+      → getD (t .screen) k 0 ≡ getD (m .screen) k 0
+  unfolding done
+  exec-unpainted m t w n r other =
+      let e = exec-did s cap m t w n r in
+      rw (e .left-by) (others-keep-to-mode s (e .action) (m .screen) k wide (rw (e .is-found .action) at other) far)
+
+  runs-unpainted : (b : ℕ) (a : Line Machine) → NoPainting (turnOf cap (table s)) (runs (turnOf cap (table s)) b a .count) a
+      → getD (runs (turnOf cap (table s)) b a .line .machine .screen) k 0 ≡ getD (a .machine .screen) k 0
+  runs-unpainted b a without =
+      runs-without (turnOf cap (table s)) (λ w. Paints (entry (kindIn w) .action w)) (λ m. getD (m .screen) k 0 ≡ getD (a .machine .screen) k 0)
+      (λ m t w n r other same. exec-unpainted m t w n r other ∙ same) b a without refl
 
 -- ---- a run in a ring memory
 
@@ -404,35 +361,46 @@ module _ (s : Scene) (g : Ring) (budget : ℕ) (ring : List ℕ) (m : Machine) w
         stop-high = λ a b. b;
       }))
 
+  abbrev waiting-line : Line Machine
+  waiting-line = record { words = waits; machine = m }
+
+  abbrev whole-turn : Machine → List ℕ → Turn Machine
+  whole-turn = turnOf (carried (g .min) (g .max)) (table s)
+
+  -- what holds where nothing runs, and of the run of the words that wait, holds of a run
+  by-line : (P : ℕ → Machine → Type 0) → P 0 m → P (runs whole-turn budget waiting-line .count) (runs whole-turn budget waiting-line .line .machine)
+      → P (runIn s g budget ring m .count) (runIn s g budget ring m .machine)
+  unfolding runIn runWords left
+  by-line P still goes =
+      cases (fitting g (length ring) (length (m .cursor)))
+      (λ t. cases (nextGood g (nextOf ring))
+      (λ y. rw (t, turn-kept s g (nextOf ring) y) goes)
+      (λ f.
+      let never = never-next s g (nextOf ring) f in
+      rw (t, never-counts (turnIn s g (nextOf ring)) never budget waiting-line, runs-still (turnIn s g (nextOf ring)) never budget waiting-line) still))
+      (λ f. rw f still)
+
   -- "The run stops after a number of commands never above its budget"
   pub run-count : runIn s g budget ring m .count ≤ budget
-  unfolding runIn runWords left
-  run-count =
-      cases (fitting g (length ring) (length (m .cursor)))
-      (λ t. rw t (runs-count (turnIn s g (nextOf ring)) budget (record { words = waits; machine = m })))
-      (λ f. rw f (omega arith))
+  run-count = by-line (λ k t. k ≤ budget) (omega arith) (runs-count whole-turn budget waiting-line)
 
   -- a run that consumed nothing leaves the machine
   pub run-nothing : runIn s g budget ring m .count ≡ 0 → runIn s g budget ring m .machine ≡ m
-  unfolding runIn runWords left
-  run-nothing =
-      cases (fitting g (length ring) (length (m .cursor)))
-      (λ t. rw t (λ z. ap (λ (a : Line Machine). a .machine) (runs-none (turnIn s g (nextOf ring)) budget (record { words = waits; machine = m }) z)))
-      (λ f. rw f (λ z. refl))
+  run-nothing = by-line (λ k t. k ≡ 0 → t ≡ m) (λ z. refl) (λ z. ap (λ (a : Line Machine). a .machine) (runs-none whole-turn budget waiting-line z))
 
   -- and every run each cursor word that none of its commands fills
-  pub run-filled : (i : ℕ)
-      → largestCursor (turnOf (carried (g .min) (g .max)) (table s)) (runIn s g budget ring m .count) (record { words = waits; machine = m }) ≤ i
+  pub run-filled : (i : ℕ) → largestCursor whole-turn (runIn s g budget ring m .count) waiting-line ≤ i
       → getD (runIn s g budget ring m .machine .cursor) i 0 ≡ getD (m .cursor) i 0
-  unfolding runIn runWords left
   run-filled i =
-      let a : Line Machine = record { words = waits; machine = m } in
-      cases (fitting g (length ring) (length (m .cursor)))
-      (λ t. cases (nextGood g (nextOf ring))
-      (λ y. rw (t, turn-kept s g (nextOf ring) y) (runs-filled s (carried (g .min) (g .max)) i budget a))
-      (λ f. rw t (λ l. ap (λ (x : Line Machine). getD (x .machine .cursor) i 0)
-      (runs-still (turnIn s g (nextOf ring)) (never-next s g (nextOf ring) f) budget a))))
-      (λ f. rw f (λ l. refl))
+      by-line (λ k t. largestCursor whole-turn k waiting-line ≤ i → getD (t .cursor) i 0 ≡ getD (m .cursor) i 0) (λ l. refl)
+      (runs-filled s (carried (g .min) (g .max)) i budget waiting-line)
+
+  -- and each screen place behind the mode, if none of its commands is a fill or a copy
+  pub run-unpainted : (k : ℕ) → 0 < s .width → s .width * s .height ≤ k → NoPainting whole-turn (runIn s g budget ring m .count) waiting-line
+      → getD (runIn s g budget ring m .machine .screen) k 0 ≡ getD (m .screen) k 0
+  run-unpainted k wide far =
+      by-line (λ j t. NoPainting whole-turn j waiting-line → getD (t .screen) k 0 ≡ getD (m .screen) k 0) (λ h. refl)
+      (runs-unpainted s (carried (g .min) (g .max)) k wide far budget waiting-line)
 
   -- what it posts, by the commands that it executed
   pub run-tells : s .posts ≡ postsIn g → m .posted ≡ postedIn (postsIn g) ring
@@ -456,12 +424,11 @@ module _ (s : Scene) (g : Ring) (budget : ℕ) (ring : List ℕ) (m : Machine) w
       (λ f. rw f (still-tells s cap g ring a (record { answer = ended (Fault BadNext); count = 0; place = g; ring = ring; machine = m }) refl refl refl))
 
   -- a sound machine stays sound
-  pub run-sound : (screen : List ℕ) → 0 < s .width → Sound (s .width * s .rows) screen m → Sound (s .width * s .rows) screen (runIn s g budget ring m .machine)
-  unfolding runIn runWords left
-  run-sound screen wide h =
-      cases (fitting g (length ring) (length (m .cursor)))
-      (λ t. rw t (runs-keep (turnIn s g (nextOf ring)) (Sound (s .width * s .rows) screen) (λ a b w n. sound-turn s screen wide g (nextOf ring) a b w n) budget (record { words = waits; machine = m }) h))
-      (λ f. rw f h)
+  pub run-sound : (screen : List ℕ) → 0 < s .width → ModeJoined s → Sound (joinedAt s) screen m
+      → Sound (joinedAt s) screen (runIn s g budget ring m .machine)
+  run-sound screen wide mode h =
+      by-line (λ k t. Sound (joinedAt s) screen t) h
+      (runs-keep whole-turn (Sound (joinedAt s) screen) (sound-exec s screen wide mode (carried (g .min) (g .max))) budget waiting-line h)
 
 -- ---- a run of a device
 
@@ -517,18 +484,19 @@ module _ (d : Device) (l : Lent) where
 
   module _ (g : Ring) (o : Open g) where
     -- the machine that such a run starts with is sound
-    pub open-sound : Sound (widthOf d * heightOf d) (l .screen) (machineOf d l g)
+    pub open-sound : Sound (joinedAt (sceneFor d l g)) (l .screen) (machineOf d l g)
     unfolding lentGood
     open-sound =
         let a = both (eqb (length (l .ring)) (memoryOf d / 4)) _ (o .lengths) in
         let b = both (eqb (length (l .framebuffer)) (pixelsOf d)) _ (a .1) in
         let c = both (eqb (length (l .screen)) (pixelsOf d)) _ (b .1) in
-        record { same-length = refl; beyond-mode = λ k h. refl; cursor = eqb-true _ _ (c .1); defined = well-formed d (o .is-well-formed) .defined }
+        record { same-length = refl; beyond-reach = λ k h. refl; cursor = eqb-true _ _ (c .1); defined = well-formed d (o .is-well-formed) .defined }
 
     -- and so is the one that it leaves
-    pub left-sound : (budget : ℕ) → Sound (widthOf d * heightOf d) (l .screen) (ranIn budget g .machine)
+    pub left-sound : (budget : ℕ) → Sound (joinedAt (sceneFor d l g)) (l .screen) (ranIn budget g .machine)
     left-sound budget =
-        run-sound (sceneFor d l g) g budget (l .ring) (machineOf d l g) (l .screen) (well-formed d (o .is-well-formed) .width-low) open-sound
+        let wide = well-formed d (o .is-well-formed) .width-low in
+        run-sound (sceneFor d l g) g budget (l .ring) (machineOf d l g) (l .screen) wide (mode-joined d) open-sound
 
     pub left-stays : (budget : ℕ) → Stays g (l .ring) (ranIn budget g)
     left-stays budget = run-stays (sceneFor d l g) g budget (l .ring) (machineOf d l g)
@@ -574,7 +542,8 @@ module _ (d : Device) (l : Lent) where
         width-high = w .width-high;
         height-low = w .height-low;
         height-high = w .height-high;
-        condition = rw (o .is-configured) (condition-kept (memoryOf d) (ranIn budget g .answer) (ranIn budget g .place) place);
+        condition = subst (λ (b : Bool). conditionGood (memoryOf d) b (conditionAfter (ranIn budget g .answer) (ranIn budget g .place)) ≡ true)
+            (sym (o .is-configured)) (condition-kept (memoryOf d) (ranIn budget g .answer) (ranIn budget g .place) place);
         defined = left-sound g o budget .defined;
       })
 

@@ -3,7 +3,7 @@
 use mathlib.Core.Path.{_≡_, refl, sym, ap, subst, _∙_}
 use mathlib.Core.Bool.{Bool, true, false}
 use mathlib.Core.List.{List, [], _∷_}
-use mathlib.Core.Logic.{_⊎_, inl, inr, ⊎-elim}
+use mathlib.Core.Logic.{_↔_, _⊎_, inl, inr, ⊎-elim}
 use Prim.Native.Nat.{ℕ, zero, suc, _*_, _≤_, _<_}
 use native.Mathlib.Omega.{arith}
 use lib.Dec.{eqb, ltb}
@@ -30,26 +30,28 @@ use Rattle.picture.specs.declared.Overlay.{Overlay}
 use Rattle.picture.specs.Picture.{composed}
 use Rattle.picture.proofs.Laws.{length-composed, beyond-stays}
 use Rattle.effect.specs.Effects.{Machine}
-use Rattle.run.specs.Run.{NoFence}
+use Rattle.effect.proofs.Reach.{beyond-rows}
+use Rattle.run.specs.Run.{NoFence, NoPainting}
 use Rattle.device.specs.declared.Condition.{Condition}
 use Rattle.device.specs.declared.Condition.the-variants.{Idle, Running, Faulted}
 use Rattle.device.specs.declared.Device.{Device}
-use Rattle.device.specs.Device.{pixelsOf, widthOf, heightOf, definedOf, sizesGood, modeFits, wellFormed}
+use Rattle.device.specs.Device.{pixelsOf, widthOf, heightOf, rowsOf, definedOf, sizesGood, modeFits, wellFormed}
 use Rattle.device.specs.Making.{madeOf}
 use Rattle.register_read.specs.Registers.{readBy, readOf}
 use Rattle.register_write.specs.Registers.{written}
 use Rattle.adapter.specs.Picture.{cursorOver, lengthsGood, pictureOf}
 use Rattle.device_run.specs.Run.{Lent, RunOutcome, conditionAfter, busyAfter, machineOf, sceneFor, lineOf, turnFor, refusedRun, ran, runOf}
 use Rattle.device.proofs.Laws.{well-formed}
+use Rattle.offscreen.proofs.Joined.{joined-places}
 use Rattle.register_write.proofs.Kept.{part-kept, sizes-kept, marks-kept, busy-kept}
 use Rattle.register_read.proofs.Readings.{value-kept}
 use Rattle.register_write.specs.Rules.{Why, no-register, read-only, bad-value, wrong-length, ring-refused, is-taken}
 use Rattle.register_write.proofs.Refusals.{why, ill-formed-write}
 use Rattle.history.proofs.KeptByRun.{NotStanding, Refusal, lent-length, disabled, not-configured, fault-stands, too-large, Open, ranIn, by-run}
-use Rattle.history.proofs.KeptByRun.{left-sound, left-stays, open-sound, refused-run, run-count, run-nothing, run-filled, run-tells, beyond-rows}
+use Rattle.history.proofs.KeptByRun.{left-sound, left-stays, open-sound, refused-run, run-count, run-nothing, run-filled, run-unpainted, run-tells}
 use Rattle.history.specs.Calls.{World, Call, make, write, read, run, append, submit, picture, offscreen, fence, passed, lend, perform, performAll}
-use Rattle.history.specs.Harm.{row, among, SameBut, InMode, WriteChanges, ConditionChanges, RunChanges, FromNext, AppendChanges, PictureChanges}
-use Rattle.history.specs.Harm.{OnlyNamed, Safe, Harmless}
+use Rattle.history.specs.Harm.{row, among, SameBut, InMode, InReach, cursorFilled, Posts}
+use Rattle.history.specs.Harm.{WriteChanges, ConditionChanges, RunChanges, FromNext, AppendChanges, PictureChanges, OnlyNamed, Safe, Harmless}
 use Rattle.history.proofs.Starts.{writes-number, not-one, condition-kept, refused-stays}
 
 -- ---- answers
@@ -207,6 +209,11 @@ submit-ring ring c =
     (λ a high. all-same ring)
     (λ f. appended ring (commandWords c) (f .usable) (f .room))
 
+-- a test that does not hold fails
+not-yes : (b : Bool) → (b ≡ true → ⊥) → b ≡ false
+not-yes true h = absurd (h refl)
+not-yes false h = refl
+
 -- not below is at least
 not-below : (i n : ℕ) → (i < n → ⊥) → n ≤ i
 not-below i n h = cases (ltb i n) (λ t. absurd (h (ltb-true i n t))) (λ f. ltb-false i n f)
@@ -232,6 +239,7 @@ module _ (w : World) where
     ring = all-same (m .ring);
     word-6 = λ g e h. refl;
     screen = all-same (m .screen);
+    offscreen = λ g e h. all-same (m .screen);
     cursor = all-same (m .cursor);
     framebuffer = refl;
     output = refl;
@@ -243,25 +251,34 @@ module _ (w : World) where
   ran-changes budget g o =
       let r = ranIn d m budget g in
       let s = left-stays d m g o budget in
+      let running = sym (o .running) in
       let before = open-sound d m g o in
       let after = left-sound d m g o budget in
       let filled = run-filled (sceneFor d m g) g budget (m .ring) (machineOf d m g) in
+      let wide = well-formed d (o .is-well-formed) .width-low in
+      let unpainted = run-unpainted (sceneFor d m g) g budget (m .ring) (machineOf d m g) in
       let same = run-nothing (sceneFor d m g) g budget (m .ring) (machineOf d m g) in
       record {
         sizes = refl;
         registers = refl;
         plane = refl;
         busy = busy-moves (r .answer) (d .busy);
-        condition = rw (o .running) (condition-moves (r .answer) g (r .place) (s .min) (s .max));
-        ring = rw (o .running) (record {
+        condition = subst (λ (c : Condition). ConditionChanges c (answerNumber (r .answer)) (conditionAfter (r .answer) (r .place))) running
+            (condition-moves (r .answer) g (r .place) (s .min) (s .max));
+        ring = subst (λ (c : Condition). SameBut (λ i. (i ≡ 3) ⊎ ((i ≡ 6) × Posts c)) (m .ring) (r .ring)) running (record {
           same-length = s .ring-length;
           elsewhere = λ i h. s .other-words i (λ e. h (inl e)) (λ t e. h (inr (e, leb-true 7 (g .min) t)));
         });
         word-6 = λ h e.
             subst (λ (x : Ring). NoFence (turnFor d m x) (r .count) (lineOf d m x) → getD (r .ring) 6 0 ≡ getD (m .ring) 6 0)
             (same-ring g h (sym (o .running) ∙ e)) (λ without. run-tells (sceneFor d m g) g budget (m .ring) (machineOf d m g) refl refl .0 without .0);
-        screen = record { same-length = after .same-length; elsewhere = λ i h. after .beyond-mode i (not-below i (widthOf d * heightOf d) h) };
-        cursor = rw (o .running) (record { same-length = after .cursor ∙ sym (before .cursor); elsewhere = λ i h. filled i (not-below i _ h) });
+        screen = record { same-length = after .same-length; elsewhere = λ i h. after .beyond-reach i (not-yes _ h) };
+        offscreen = λ h e.
+            subst (λ (x : Ring). NoPainting (turnFor d m x) (r .count) (lineOf d m x) → SameBut (InMode w) (m .screen) (r .machine .screen))
+            (same-ring g h (sym (o .running) ∙ e))
+            (λ without. record { same-length = after .same-length; elsewhere = λ i n. unpainted i wide (not-below i (widthOf d * heightOf d) n) without });
+        cursor = subst (λ (c : Condition). SameBut (λ i. i < cursorFilled w c (r .count)) (m .cursor) (r .machine .cursor)) running
+            (record { same-length = after .cursor ∙ sym (before .cursor); elsewhere = λ i h. filled i (not-below i _ h) });
         framebuffer = refl;
         output = refl;
         nothing-consumed = λ z. (rw (s .untouched z, same z), ap (λ (x : Machine). x .marks) (same z));
@@ -388,6 +405,24 @@ no-harm (c ∷ cs) w = (safe c w, no-harm cs (perform c w .world))
 -- the same of a call after any others
 pub no-harm-after : (before : List Call) (c : Call) (w : World) → Safe c (performAll before w .world)
 no-harm-after before c w = safe c (performAll before w .world)
+
+-- What a run may paint, by rows: where the mode fits, the places in reach are those below width·rows, with as many rows as lie whole in P pixels.
+pub places-in-reach : (w : World) (i : ℕ) → wellFormed (w .device) ≡ true → modeFits (w .device) ≡ true
+    → InReach w i ↔ (i < widthOf (w .device) * rowsOf (w .device))
+places-in-reach w i good fits = joined-places (w .device) good fits i
+
+-- So no run, of no device, paints the P mod width words behind them.
+pub behind-rows-stay : (budget : ℕ) (w : World) (i : ℕ) → widthOf (w .device) * rowsOf (w .device) ≤ i
+    → getD (perform (run budget) w .world .lent .screen) i 0 ≡ getD (w .lent .screen) i 0
+unfolding perform
+behind-rows-stay budget w i behind =
+    let d = w .device in
+    let m = w .lent in
+    by-run d m (λ (o : RunOutcome). getD (o .lent .screen) i 0 ≡ getD (m .screen) i 0) budget
+    (λ a r. refl)
+    (λ g o.
+    left-sound d m g o budget .beyond-reach i
+    (not-yes _ (λ t. let l = joined-places d (o .is-well-formed) (o .mode) i .0 t in omega arith)))
 
 -- "The run stops after a number of commands never above its budget"
 pub run-bounded : (budget : ℕ) (w : World) → getD (perform (run budget) w .values) 0 0 ≤ budget

@@ -21,12 +21,14 @@ use Rattle.cursor.specs.Plane.{shapeGood}
 use Rattle.command.specs.declared.Kind.the-variants.{Fence, Escape}
 use Rattle.command.specs.Commands.{entry, kindOf, commands}
 use Rattle.effect.specs.declared.Marks.{Marks}
-use Rattle.run.specs.Run.{NoFence}
+use Rattle.run.specs.Run.{NoFence, NoPainting}
 use Rattle.device.specs.declared.Registers.{Registers}
 use Rattle.device.specs.declared.Plane.{Plane}
 use Rattle.device.specs.declared.Condition.the-variants.{Idle, Running, Faulted}
 use Rattle.device.specs.declared.Device.{Device}
-use Rattle.device.specs.Device.{freshRegisters, fresh, withRegisters, withPlane, withBusy, withCondition}
+use Rattle.device.specs.Device.{freshRegisters, fresh, sizesGood, modeGood, conditionGood, definedGood, wellFormed}
+use Rattle.device.specs.Device.{withRegisters, withPlane, withBusy, withCondition}
+use Rattle.offscreen.proofs.Joined.{joined-places}
 use Rattle.register_read.specs.Registers.{writableValue}
 use Rattle.register_write.specs.Registers.{setMode}
 use Rattle.device_run.specs.Run.{Lent, lent, withRing, withFramebuffer, lineOf, turnFor}
@@ -83,6 +85,27 @@ escaping = record { device = withCondition (before .device) (Running behind); le
 
 abbrev postingIn : ℕ → World
 postingIn number = record { device = escaping .device; lent = withRing memories (set escapeWords 6 number); output = two }
+
+-- an UPDATE of one column and two rows waits there instead
+abbrev updateWords : List ℕ
+updateWords = 28 ∷ 96 ∷ 48 ∷ 28 ∷ 0 ∷ 0 ∷ 0 ∷ 1 ∷ 0 ∷ 0 ∷ 1 ∷ 2 ∷ []
+
+abbrev updating : World
+updating = record { device = escaping .device; lent = withRing memories updateWords; output = two }
+
+abbrev updatingTo : ℕ → World
+updatingTo pixel = record { device = escaping .device; lent = lent updateWords two (0 ∷ pixel ∷ []) two; output = two }
+
+-- three pixels, and a mode of 2 by 1; the device is a well-formed one, so that its offscreen rectangle is worked out
+abbrev unevenly : ℕ → World
+unevenly pixel = record {
+  device = withRegisters (fresh 10256 3) (setMode freshRegisters 2 1);
+  lent = lent ringWords two (0 ∷ 0 ∷ pixel ∷ []) two;
+  output = two;
+}
+
+abbrev uneven : World
+uneven = unevenly 0
 
 -- ---- answers and words
 
@@ -154,9 +177,25 @@ no-fence j first e =
 pub escape-posts : (a : ℕ) → RunChanges a 1 escaping (postingIn 9) → ⊥
 escape-posts a h = let z : _≡_ {A = ℕ} 9 0 = h .word-6 behind refl no-fence in omega arith
 
--- a run paints behind the mode
-pub run-paints : (a k : ℕ) → RunChanges a k before (lending (lent ringWords two (0 ∷ 9 ∷ []) two)) → ⊥
-run-paints a k h = let z : _≡_ {A = ℕ} 9 0 = h .screen .elsewhere 1 (λ e. omega arith) in omega arith
+uneven-good : wellFormed (uneven .device) ≡ true
+unfolding wellFormed sizesGood modeGood conditionGood definedGood
+uneven-good = refl
+
+-- a run paints behind the last row that lies whole in P pixels
+pub run-paints : (a k : ℕ) → RunChanges a k uneven (unevenly 9) → ⊥
+run-paints a k h =
+    let z : _≡_ {A = ℕ} 9 0 = h .screen .elsewhere 2 (λ e. omega (arith, joined-places (uneven .device) uneven-good refl 2 .0 e)) in omega arith
+
+no-painting : NoPainting (turnFor (updating .device) (updating .lent) behind) 1 (lineOf (updating .device) (updating .lent) behind)
+unfolding straight entry kindOf waiting words between after
+no-painting j first e =
+    let zero : j ≡ 0 = omega arith in
+    let none-painted : ⊥ = rw zero at e in
+    none-painted
+
+-- a run that executed an UPDATE alone, of one column and two rows, paints the offscreen row behind the mode's
+pub update-paints : (a : ℕ) → RunChanges a 1 updating (updatingTo 9) → ⊥
+update-paints a h = let z : _≡_ {A = ℕ} 9 0 = h .offscreen behind refl no-painting .elsewhere 1 (λ e. omega arith) in omega arith
 
 -- a run paints into the framebuffer
 pub run-frames : (a k : ℕ) → RunChanges a k before (lending (withFramebuffer memories (9 ∷ 0 ∷ []))) → ⊥

@@ -29,13 +29,17 @@ use Rattle.ring.proofs.WaitingLaws.{length-waiting}
 use Rattle.ring.proofs.AppendLaws.{append-refused, length-append-to, append-elsewhere, append-keeps, append-waits, append-full}
 use Rattle.command.proofs.Laws.{command-laws}
 use Rattle.effect.specs.Effects.{Scene, scene, Machine, done}
+use Rattle.effect.proofs.Reach.{joinedAt}
 use Rattle.run.specs.Run as R
 use Rattle.run.specs.Run.{knownOf, table, stamped, postsIn, posting, postedIn, left, runWords, fitting, runIn}
 use Rattle.device.specs.declared.Device.{Device}
 use Rattle.device.specs.declared.Condition.{Condition}
 use Rattle.device.specs.declared.Condition.the-variants.{Running, Faulted}
-use Rattle.device.specs.Device.{memoryOf, pixelsOf, widthOf, heightOf, enabledOf, configuredOf, conditionOf, sizesGood, modeGood, conditionGood, modeFits, wellFormed}
+use Rattle.device.specs.Device.{memoryOf, pixelsOf, widthOf, heightOf, enabledOf, configuredOf, conditionOf}
+use Rattle.device.specs.Device.{sizesGood, modeGood, conditionGood, modeFits, wellFormed}
 use Rattle.device_run.specs.Run.{Lent, withRing, RunOutcome, lentGood, conditionAfter, sceneFor, ran, runBy, runOf}
+use Rattle.device_run.proofs.ByRows.{scene-by-rows}
+use Rattle.offscreen.proofs.Joined.{mode-joined}
 use Rattle.device.proofs.Laws.{well-formed}
 use Rattle.history.specs.Calls.{World, CallOutcome, append, run, perform}
 use Rattle.history.specs.Demand.{ringAtStart, isStart, worldTurn, worldWords, worldMachine, worldLine, standsIn, wordsOn, numbersOf}
@@ -94,6 +98,7 @@ ring-for (some c) g h e = absurd (true≢false cc)
 
 -- what the start has shown of the device and the framebuffer
 pub record Started (w₀ : World) : Type 0 where
+  pub there : wellFormed (w₀ .device) ≡ true
   pub sizes : sizesGood (memoryOf (w₀ .device)) (pixelsOf (w₀ .device)) ≡ true
   pub mode : modeGood (widthOf (w₀ .device)) (heightOf (w₀ .device)) ≡ true
   pub config : configuredOf (w₀ .device) ≡ true
@@ -113,7 +118,7 @@ module _ (g : Ring) (w₀ : World) where
 
   -- what every executed command keeps of the machine
   abbrev Right : Machine → Type 0
-  Right = Sound (widthOf (w₀ .device) * heightOf (w₀ .device)) (w₀ .lent .screen)
+  Right = Sound (joinedAt (sceneFor (w₀ .device) (w₀ .lent) g)) (w₀ .lent .screen)
 
   -- After k words were taken in all, the world w shows the queue q.
   pub record Shows (k : ℕ) (w : World) (q : Queue Machine) : Type 0 where
@@ -244,6 +249,9 @@ module _ (g : Ring) (w₀ : World) where
     well-formed-now =
         rw (s .sizes, s .registers, s .condition, st .sizes, st .mode, st .config, condition-good (q .stands)) (s .sound .defined)
 
+    mode-now : modeFits (w .device) ≡ true
+    mode-now = rw (s .registers, s .sizes) (st .fits-screen)
+
     lent-now : lentGood (w .device) (w .lent) ≡ true
     unfolding lentGood
     lent-now =
@@ -260,7 +268,7 @@ module _ (g : Ring) (w₀ : World) where
         ≡ runBy (w .device) (w .lent) b (conditionFor (q .stands) now)
     passes b =
         run-passes (w .device) (w .lent) b well-formed-now lent-now
-        (rw (s .registers) (st .config)) (rw (s .registers) (st .enable)) (rw (s .registers, s .sizes) (st .fits-screen))
+        (rw (s .registers) (st .config)) (rw (s .registers) (st .enable)) mode-now
         ∙ ap (runBy (w .device) (w .lent) b) (s .condition)
 
     fits-now : fitting now (length memory) (length (worldMachine g w .cursor)) ≡ true
@@ -281,7 +289,11 @@ module _ (g : Ring) (w₀ : World) where
         )
 
     same-scene : sceneFor (w .device) (w .lent) g ≡ sceneFor (w₀ .device) (w₀ .lent) g
-    same-scene = λ i. scene (s .registers i .width) (s .registers i .height) (s .framebuffer i) (postsIn g)
+    same-scene =
+        scene-by-rows (w .device) (w .lent) g well-formed-now mode-now
+        ∙ (λ i. scene (record { width = s .registers i .width; height = s .registers i .height; rows = s .sizes i .pixels / s .registers i .width })
+        (s .framebuffer i) (postsIn g))
+        ∙ sym (scene-by-rows (w₀ .device) (w₀ .lent) g (st .there) (st .fits-screen))
 
     -- the device's run is the queue's
     runs-so : (b : ℕ) → runIn (sceneFor (w .device) (w .lent) g) now b memory (worldMachine g w) ≡ left now memory (q .line .words) (runs turn b (q .line))
@@ -363,7 +375,8 @@ module _ (g : Ring) (w₀ : World) where
           same-answers = refl;
           shows = rw add-zero
               (left-shows (runs turn b (q .line))
-              (run-leaves laws Right (sound-exec (sceneFor (w₀ .device) (w₀ .lent) g) (w₀ .lent .screen) (st .wide) cap) b (q .line) sound-line)
+              (run-leaves laws Right
+              (sound-exec (sceneFor (w₀ .device) (w₀ .lent) g) (w₀ .lent .screen) (st .wide) (mode-joined (w₀ .device)) cap) b (q .line) sound-line)
               (posted-now b));
         })
 
@@ -427,6 +440,7 @@ started w₀ e =
     let sizes = both (sizesGood (memoryOf d) (pixelsOf d)) _ (t .there) in
     let mode = both (modeGood (widthOf d) (heightOf d)) _ (sizes .1) in
     record {
+      there = t .there;
       sizes = sizes .0;
       mode = mode .0;
       config = t .config;
@@ -458,7 +472,7 @@ start-shows g w₀ e q =
       registers = refl;
       framebuffer = refl;
       ring-length = lengths .0;
-      sound = record { same-length = refl; beyond-mode = λ k l. refl; cursor = lengths .3; defined = well-formed d (t .there) .defined };
+      sound = record { same-length = refl; beyond-reach = λ k l. refl; cursor = lengths .3; defined = well-formed d (t .there) .defined };
       holds = r .0;
       line = λ i. record { words = waits-none (w₀ .lent .ring) (g .min) (g .max) _ _ (ap (λ x. x / 4) (sym (r .2))) i; machine = worldMachine g w₀ };
       condition = q ∙ (λ i. Running (stopAt g (stop i)));

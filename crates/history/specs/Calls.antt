@@ -11,7 +11,7 @@ use Rattle.register_read.specs.Registers.{readOf}
 use Rattle.register_write.specs.Registers.{written}
 use Rattle.device_run.specs.Run.{Lent, withRing, runOf}
 use Rattle.adapter.specs.Picture.{pictureOf}
-use Rattle.adapter.specs.Offscreen.{offscreenOf}
+use Rattle.offscreen.specs.Offscreen.{offscreenOf}
 use Rattle.adapter.specs.Fence.{fenceOf, fencePassed}
 
 -- A device, the memories that a run is lent, "and for a finished picture an output (P)".

@@ -7,6 +7,7 @@ use mathlib.Core.List.{List, [], _∷_}
 use mathlib.Core.Logic.{_⊎_}
 use lib.Dec.{eqb}
 use lib.ListN.{length, getD}
+use Rattle.geometry.specs.Pixels.{columnOf, rowOf}
 use Rattle.execution.specs.declared.Cause.{Cause}
 use Rattle.execution.specs.Straight.{causeNumber, Turn, ends, exec, Line, beyond, next}
 use Rattle.ring.specs.declared.Ring.{Ring}
@@ -20,10 +21,11 @@ use Rattle.command.specs.declared.Action.{Action}
 use Rattle.command.specs.declared.Action.the-variants.{Update, Fill, Copy, Define, Fence, Nothing}
 use Rattle.command.specs.Commands.{entry, kindIn}
 use Rattle.effect.specs.Effects.{Machine}
-use Rattle.run.specs.Run.{NoFence}
+use Rattle.run.specs.Run.{NoFence, NoPainting}
 use Rattle.device.specs.declared.Condition.{Condition}
 use Rattle.device.specs.declared.Condition.the-variants.{Idle, Running, Faulted}
 use Rattle.device.specs.Device.{fresh, widthOf, heightOf}
+use Rattle.offscreen.specs.Offscreen.{joined}
 use Rattle.register_read.specs.Registers.{writableValue}
 use Rattle.device_run.specs.Run.{withRing, lineOf, turnFor}
 use Rattle.history.specs.Calls.{World, Call, make, write, read, run, append, submit, picture, offscreen, fence, passed, lend, CallOutcome, perform}
@@ -112,9 +114,14 @@ Posts Idle = ⊥
 Posts (Running g) = 7 ≤ g .min
 Posts (Faulted c) = ⊥
 
+-- Document 02, P5: "Commands 2, 3, 13 and 14 may now read and write offscreen rows": the places of the pixels "in the mode or offscreen". (Below
+-- width·rows, by the law `places-in-reach`.)
+abbrev pub InReach : World → ℕ → Type 0
+InReach w i = let d = w .device in joined d (columnOf (widthOf d) i) (rowOf (widthOf d) i) ≡ true
+
 -- A run that answered a and consumed k commands: of the device the defined cursor, the fence, BUSY, and the remembered STOP or the fault; of the screen the
--- mode's pixels; of the cursor image what its commands fill. "A run then changes words 3 and 6 only", word 6 where MIN allows it, "and none if it
--- consumed nothing". "framebuffer never".
+-- mode's pixels and the offscreen rows, these by fills and copies alone; of the cursor image what its commands fill. "A run then changes words 3 and 6 only",
+-- word 6 where MIN allows it, "and none if it consumed nothing". "framebuffer never".
 pub record RunChanges (a k : ℕ) (w z : World) : Type 0 where
   pub sizes : z .device .sizes ≡ w .device .sizes
   pub registers : z .device .registers ≡ w .device .registers
@@ -125,7 +132,10 @@ pub record RunChanges (a k : ℕ) (w z : World) : Type 0 where
   -- word 6 by an executed FENCE alone
   pub word-6 : (g : Ring) → w .device .condition ≡ Running g → NoFence (turnFor (w .device) (w .lent) g) k (lineOf (w .device) (w .lent) g)
       → getD (z .lent .ring) 6 0 ≡ getD (w .lent .ring) 6 0
-  pub screen : SameBut (InMode w) (w .lent .screen) (z .lent .screen)
+  pub screen : SameBut (InReach w) (w .lent .screen) (z .lent .screen)
+  -- "UPDATE .. keep to the mode": offscreen rows by an executed fill or copy alone
+  pub offscreen : (g : Ring) → w .device .condition ≡ Running g → NoPainting (turnFor (w .device) (w .lent) g) k (lineOf (w .device) (w .lent) g)
+      → SameBut (InMode w) (w .lent .screen) (z .lent .screen)
   pub cursor : SameBut (λ i. i < cursorFilled w (w .device .condition) k) (w .lent .cursor) (z .lent .cursor)
   pub framebuffer : z .lent .framebuffer ≡ w .lent .framebuffer
   pub output : z .output ≡ w .output

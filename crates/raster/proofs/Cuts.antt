@@ -18,7 +18,7 @@ use Rattle.geometry.proofs.Tests.{both, and-yes, same-bool}
 use Rattle.geometry.proofs.Painted.{painted-same, painted-region, none-painted, painted-if, refused-if}
 use Rattle.geometry.proofs.Rows.{inside}
 use Rattle.geometry.proofs.Cutting.{cut-rectangle, cut-nothing, in-rect, rect-in, in-none, area-cut}
-use Rattle.raster.specs.Painters.{rowsFit, filled, updated, moves, copied}
+use Rattle.raster.specs.Painters.{rowsFit, filledIn, filled, updated, moves, copiedIn, copied}
 use Rattle.raster.specs.CutPainters.{filledCut, updatedCut, copiedCut}
 
 pub record Fit (width rows n : ℕ) : Type 0 where
@@ -106,17 +106,17 @@ moves-nothing width rows sx sy r is pos k =
 
 module _ (width rows : ℕ) (r : Rect) (colour rop : ℕ) (old : List ℕ) where
   pub fill-refused : rowsFit width rows (length old) ≡ false → old ≡ filled width rows r colour rop old
-  unfolding filled
+  unfolding filled filledIn
   fill-refused misfit = sym (refused-if _ _ _ old misfit)
 
   pub fill-nothing : rowsFit width rows (length old) ≡ true → cutTo r width rows ≡ Nothing → old ≡ filled width rows r colour rop old
-  unfolding filled
+  unfolding filled filledIn
   fill-nothing fit is =
       sym (painted-if _ _ _ old fit ∙ none-painted _ _ old (λ k h. area-nothing width rows r is (rows-fit width rows _ fit .wide) k))
 
   pub fill-cut : (a : Rect) → rowsFit width rows (length old) ≡ true → cutTo r width rows ≡ Rectangle a
       → filledCut width a colour rop old ≡ filled width rows r colour rop old
-  unfolding filled filledCut
+  unfolding filled filledIn filledCut
   fill-cut a fit is =
       painted-region _ _ _ old (λ k h. area-rectangle width rows r a is (rows-fit width rows _ fit .wide) k) ∙ sym (painted-if _ _ _ old fit)
 
@@ -150,17 +150,17 @@ module _ (width rows : ℕ) (r : Rect) (framebuffer old : List ℕ) where
 
 module _ (width rows sx sy : ℕ) (r : Rect) (rop : ℕ) (old : List ℕ) where
   pub copy-refused : rowsFit width rows (length old) ≡ false → old ≡ copied width rows sx sy r rop old
-  unfolding copied
+  unfolding copied copiedIn
   copy-refused misfit = sym (refused-if _ _ _ old misfit)
 
   pub copy-nothing : rowsFit width rows (length old) ≡ true → cutCopy sx sy r width rows ≡ Nothing → old ≡ copied width rows sx sy r rop old
-  unfolding copied
+  unfolding copied copiedIn
   copy-nothing fit is =
       sym (painted-if _ _ _ old fit ∙ none-painted _ _ old (λ k h. moves-nothing width rows sx sy r is (rows-fit width rows _ fit .wide) k))
 
   pub copy-cut : (a : Rect) → rowsFit width rows (length old) ≡ true → cutCopy sx sy r width rows ≡ Rectangle a
       → copiedCut width sx sy a rop old ≡ copied width rows sx sy r rop old
-  unfolding copied copiedCut
+  unfolding copied copiedIn copiedCut
   copy-cut a fit is =
       let corner = copy-corner width rows sx sy r a is in
       painted-region _ _ _ old (λ k h. moves-rectangle width rows sx sy r a is (rows-fit width rows _ fit .wide) k)

@@ -531,6 +531,6 @@ module _ (ring : List ℕ) (c : Command) where
 
 -- ---- the calls that refuse nothing
 --
--- The usable offscreen rectangle: `adapter::offscreen` equals `adapter/Offscreen.offscreenOf`, four edges.
+-- The usable offscreen rectangle: `adapter::offscreen` equals `offscreen/Offscreen.offscreenOf`, four edges.
 -- The last fence: `adapter::fence` equals `adapter/Fence.fenceOf`.
 -- Whether a fence has passed: `adapter::fence_passed` equals `adapter/Fence.fencePassed`, of the last fence and the number asked for.

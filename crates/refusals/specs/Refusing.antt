@@ -4,9 +4,11 @@ use mathlib.Core.Path.{_≡_}
 use mathlib.Core.Bool.{Bool, true, false, cond, _&&_}
 use mathlib.Core.List.{List}
 use mathlib.Core.Logic.{_⊎_}
-use Prim.Native.Nat.{ℕ, _-_, _*_, _/_, _%_, _≤_, _<_, min}
+use Prim.Native.Nat.{ℕ, _+_, _-_, _*_, _/_, _%_, _≤_, _<_, min}
 use lib.Dec.{eqb, leb}
 use lib.ListN.{length}
+use Rattle.geometry.specs.declared.Rect.{Rect}
+use Rattle.geometry.specs.Pixels.{Has, columnOf, rowOf}
 use Rattle.execution.specs.declared.Cause.{Cause}
 use Rattle.execution.specs.Straight.{Line, steps, straight, whole, ending}
 use Rattle.execution.specs.Claim.{Answer, answerNumber, verdict}
@@ -18,6 +20,7 @@ use Rattle.register.specs.declared.ReadOnly.{ReadOnly}
 use Rattle.register.specs.declared.Writable.{Writable}
 use Rattle.register.specs.declared.Writable.the-variants.{Id, Enable, Width, Height, ConfigDone, Sync, GuestId, CursorId, CursorX, CursorY, CursorOn}
 use Rattle.register.specs.Numbers.{registerOf}
+use Rattle.command.specs.declared.Source.{Source}
 use Rattle.command.specs.Commands.{Known, entry, sizeBy, kindIn}
 use Rattle.command.specs.Findings.{dataOf}
 use Rattle.writer.specs.Writing.{Command, commandWords, pixelsAsked, bytesAsked, carriedIn, freeWords}
@@ -27,6 +30,7 @@ use Rattle.run.specs.Run.{passed, stamped, postsIn, posting}
 use Rattle.device.specs.declared.Condition.the-variants.{Running, Faulted}
 use Rattle.device.specs.declared.Device.{Device}
 use Rattle.device.specs.Device.{memoryOf, pixelsOf, widthOf, heightOf, enabledOf, configuredOf, conditionOf}
+use Rattle.offscreen.specs.Offscreen.{joined}
 use Rattle.device_run.specs.Run.{Lent, RunOutcome, conditionAfter, busyAfter, machineOf, lineOf, turnFor}
 
 -- "Answers 20 to 34 change nothing"
@@ -280,3 +284,20 @@ module _ (ring : List ℕ) (c : Command) where
   -- none of these: it is appended
   abbrev pub Submit0 : Type 0
   Submit0 = Usable ring × (¬ NotTaken (carriedIn ring) (c .head)) × LentAsAsked × (length (commandWords c) ≤ freeWords ring)
+
+-- ---- the copy rule: document 02, P5, "Demand 2's copy rule reads 'in the mode or offscreen' for both pixels"
+
+-- Of a copy into the rectangle r: the source pixel of the offset whose destination stands at place k.
+abbrev pub sourceX : Device → Source → Rect → ℕ → ℕ
+sourceX d from r k = from .x + (columnOf (widthOf d) k - r .x)
+
+abbrev pub sourceY : Device → Source → Rect → ℕ → ℕ
+sourceY d from r k = from .y + (rowOf (widthOf d) k - r .y)
+
+-- "In a copy, offset (i, j) moves exactly if both its source and its destination pixel lie in the mode", or offscreen: the destination is one of the
+-- rectangle's, and both are in the mode or offscreen.
+abbrev pub CopyMoves : Device → Source → Rect → ℕ → Type 0
+CopyMoves d from r k =
+    Has (r .x) (r .y) (r .w) (r .h) (columnOf (widthOf d) k) (rowOf (widthOf d) k)
+    × (joined d (columnOf (widthOf d) k) (rowOf (widthOf d) k) ≡ true)
+    × (joined d (sourceX d from r k) (sourceY d from r k) ≡ true)

@@ -33,7 +33,7 @@ writableValue g CursorOn = g .cursoron
 
 -- "Read-only: 4 and 5 maximum width and height (2,560; 1,600), 6 DEPTH 24, 7 and 28 bits per pixel 32, 8 PSEUDOCOLOR 0, 9 to 11 masks
 -- 0xFF0000, 0xFF00, 0xFF, 12 BYTES_PER_LINE 4·width, 13, 14 and 18 zero, 15 VRAM_SIZE 4·P, 16 FB_SIZE 4·width·height,
--- 17 CAPABILITIES 0x2D3, 19 MEM_SIZE M, 22 BUSY."
+-- 17 CAPABILITIES 0x2D3, 19 MEM_SIZE M, 22 BUSY." Document 02, P5: "CAPABILITIES gains 0x1000."
 unfoldable pub readOnlyValue : Sizes → ℕ → ℕ → Bool → ReadOnly → ℕ
 readOnlyValue sizes width height busy MaxWidth = maxWidth
 readOnlyValue sizes width height busy MaxHeight = maxHeight
@@ -50,7 +50,7 @@ readOnlyValue sizes width height busy FbOffset = 0
 readOnlyValue sizes width height busy MemStart = 0
 readOnlyValue sizes width height busy VramSize = 4 * sizes .pixels
 readOnlyValue sizes width height busy FbSize = 4 * width * height
-readOnlyValue sizes width height busy Capabilities = 0x2D3
+readOnlyValue sizes width height busy Capabilities = 0x12D3
 readOnlyValue sizes width height busy MemSize = sizes .memory
 readOnlyValue sizes width height busy Busy = bit busy
 

@@ -67,7 +67,7 @@ fn read_only_value(d: Device, r: ReadOnly) -> u32
         ReadOnly::MemStart => 0,
         ReadOnly::VramSize => 4 * sizes.pixels,
         ReadOnly::FbSize => 4 * g.width * g.height,
-        ReadOnly::Capabilities => 0x2D3,
+        ReadOnly::Capabilities => 0x12D3,
         ReadOnly::MemSize => sizes.memory,
         ReadOnly::Busy => bit_of(d.busy),
     }

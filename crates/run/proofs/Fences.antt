@@ -5,7 +5,7 @@ use mathlib.Core.Bool.{Bool, true, false, true≢false}
 use mathlib.Core.Logic.{_≢_, _⊎_, inl, inr, ⊎-elim}
 use mathlib.Core.Option.{Option, none, some}
 use mathlib.Core.List.{List, [], _∷_}
-use Prim.Native.Nat.{ℕ, zero, suc, _≤_}
+use Prim.Native.Nat.{ℕ, zero, suc, _≤_, _<_}
 use native.Mathlib.Omega.{arith}
 use lib.Dec.{eqb}
 use lib.ListN.{length, getD, take}
@@ -35,16 +35,29 @@ use Rattle.run.proofs.Posting.{posting-same, posted-six, posted-none, p
 -- ---- any run
 
 module _ {S : Type 0} (turn : S → List ℕ → Turn S) where
-  -- what each executed turn keeps of the machine, a run keeps
+  -- what each executed turn keeps of the machine but those of one kind, a run keeps that executes none of that kind
+  pub runs-without : (Is : List ℕ → Type 0) (Q : S → Type 0) → ((s t : S) (w : List ℕ) (n : ℕ) → turn s w ≡ exec n t → (Is w → ⊥) → Q s → Q t)
+      → (b : ℕ) (a : Line S) → ((j : ℕ) → j < runs turn b a .count → Is (straight turn j a .words) → ⊥) → Q (a .machine)
+      → Q (runs turn b a .line .machine)
+  unfolding runs straight
+  runs-without Is Q keeps zero a h q = q
+  runs-without Is Q keeps (suc b) a h q = go (next turn a) refl (λ n s. runs-without Is Q keeps b (beyond a n s))
+    where
+      go : (t : Turn S) → next turn a ≡ t
+          → ((n : ℕ) (s : S) → ((j : ℕ) → j < runs turn b (beyond a n s) .count → Is (straight turn j (beyond a n s) .words) → ⊥) → Q s
+          → Q (runs turn b (beyond a n s) .line .machine))
+          → Q (runs turn (suc b) a .line .machine)
+      go (ends e) r ih = rw (runs-ends turn b a e r) q
+      go (exec n s) r ih =
+          let did = runs-exec turn b a n s r in
+          let count = ap (λ (l : LineRun S). l .count) did in
+          rw did
+          (ih n s (λ j l. rw (straight-exec turn j a n s r) at (h (suc j) (omega arith))) (keeps (a .machine) s (a .words) n r (h 0 (omega arith)) q))
+
+  -- what each executed turn keeps, a run keeps
   pub runs-keep : (Q : S → Type 0) → ((s t : S) (w : List ℕ) (n : ℕ) → turn s w ≡ exec n t → Q s → Q t) → (b : ℕ) (a : Line S) → Q (a .machine)
       → Q (runs turn b a .line .machine)
-  unfolding runs
-  runs-keep Q keeps zero a q = q
-  runs-keep Q keeps (suc b) a q = go (next turn a) refl (λ n s h. runs-keep Q keeps b (beyond a n s) h)
-    where
-      go : (t : Turn S) → next turn a ≡ t → ((n : ℕ) (s : S) → Q s → Q (runs turn b (beyond a n s) .line .machine)) → Q (runs turn (suc b) a .line .machine)
-      go (ends e) r ih = rw (runs-ends turn b a e r) q
-      go (exec n s) r ih = rw (runs-exec turn b a n s r) (ih n s (keeps (a .machine) s (a .words) n r q))
+  runs-keep Q keeps b a q = runs-without (λ w. ⊥) Q (λ s t w n e h. keeps s t w n e) b a (λ j l x. x) q
 
   -- a run that consumed nothing left the line
   pub runs-none : (b : ℕ) (a : Line S) → runs turn b a .count ≡ 0 → runs turn b a .line ≡ a
@@ -143,24 +156,13 @@ module _ (s : Scene) (cap : ℕ) where
 
   -- one that executed no FENCE did
   pub runs-no-fence : (b : ℕ) (a : Line Machine) → NoFence turn (runs turn b a .count) a → Same (runs turn b a) (a .machine)
-  unfolding runs straight
-  runs-no-fence zero a h = (refl, refl)
-  runs-no-fence (suc b) a h = go (next turn a) refl (λ n u. runs-no-fence b (beyond a n u))
-    where
-      go : (t : Turn Machine) → next turn a ≡ t
-          → ((n : ℕ) (u : Machine) → NoFence turn (runs turn b (beyond a n u) .count) (beyond a n u) → Same (runs turn b (beyond a n u)) u)
-          → Same (runs turn (suc b) a) (a .machine)
-      go (ends e) r ih = rw (runs-ends turn b a e r) (refl, refl)
-      go (exec n u) r ih =
-          let did = runs-exec turn b a n u r in
-          let count = ap (λ (l : LineRun Machine). l .count) did in
-          let first : kindIn (a .words) ≢ Fence = h 0 (omega arith) in
-          let rest : NoFence turn (runs turn b (beyond a n u) .count) (beyond a n u) =
-          λ j l. rw (straight-exec turn j a n u r) at (h (suc j) (omega arith)) in
-          let same = ih n u rest in
-          let e = exec-marks (a .machine) u (a .words) n r in
-          let k = other-posts (kindIn (a .words)) first (s .posts) (a .words) (a .machine .posted) (a .machine .marks .fence) in
-          rw did (same .0 ∙ e .0 ∙ k .0, same .1 ∙ e .1 ∙ k .1)
+  runs-no-fence b a h =
+      runs-without turn (λ w. kindIn w ≡ Fence) (λ m. (m .posted ≡ a .machine .posted) × (m .marks .fence ≡ a .machine .marks .fence))
+      (λ m u w n q other same.
+      let e = exec-marks m u w n q in
+      let k = other-posts (kindIn w) other (s .posts) w (m .posted) (m .marks .fence) in
+      (e .0 ∙ k .0 ∙ same .0, e .1 ∙ k .1 ∙ same .1))
+      b a h (refl, refl)
 
   -- no FENCE first, and none behind it
   no-fence-on : (a : Line Machine) (n k : ℕ) (u : Machine) → next turn a ≡ exec n u → kindIn (a .words) ≢ Fence → NoFence turn k (beyond a n u)

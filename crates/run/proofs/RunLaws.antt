@@ -8,6 +8,7 @@ use native.Mathlib.Omega.{arith}
 use lib.Dec.{leb}
 use lib.ListN.{length}
 use borrow.Author.Tests.{ne-eqb, eqb-true, leb-true}
+use Rattle.geometry.specs.declared.Frame.{Frame}
 use Rattle.geometry.proofs.Tests.{both}
 use Rattle.execution.specs.declared.End.the-variants.{Fault}
 use Rattle.execution.specs.declared.Cause.the-variants.{BadNext}
@@ -85,12 +86,12 @@ run-good s g budget ring m v fits good e =
     ∙ rw fits (ap (λ (t : Machine → List ℕ → O.Turn Machine). runWords t g budget ring (wordsIn ring (viewOf g (nextOf ring))) m) (sym (turn-kept s g (nextOf ring) good)))
 
 -- fences are posted as MIN has it
-module _ (width rows : ℕ) (framebuffer : List ℕ) (g : Ring) (budget : ℕ) (ring : List ℕ) (marks : Marks) (screen cursor : List ℕ)
+module _ (frame : Frame) (framebuffer : List ℕ) (g : Ring) (budget : ℕ) (ring : List ℕ) (marks : Marks) (screen cursor : List ℕ)
     (v : View) (posts : Bool) where
   pub run-posts : fitting g (length ring) (length cursor) ≡ true → nextGood g (nextOf ring) ≡ true → v ≡ viewOf g (nextOf ring) → posts ≡ postsIn g
-      → runWords (turnOf (carried (v .lo) (v .hi)) (table (scene width rows framebuffer posts))) (placeOf v) budget ring (wordsIn ring v)
+      → runWords (turnOf (carried (v .lo) (v .hi)) (table (scene frame framebuffer posts))) (placeOf v) budget ring (wordsIn ring v)
       (machine marks screen cursor (postedIn posts ring))
-      ≡ runIn (scene width rows framebuffer (postsIn g)) g budget ring (machine marks screen cursor (postedIn (postsIn g) ring))
+      ≡ runIn (scene frame framebuffer (postsIn g)) g budget ring (machine marks screen cursor (postedIn (postsIn g) ring))
   run-posts fits good e by-min = rw by-min (run-good _ g budget ring _ v fits good e)
 
 -- what the places of the ring's words ask for

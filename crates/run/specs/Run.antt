@@ -17,9 +17,9 @@ use Rattle.ring.specs.declared.Ring.{Ring}
 use Rattle.ring.specs.Acceptance.{nextOf, maxWords}
 use Rattle.ring.specs.Waiting.{ahead, waiting, carried, placed, nextGood}
 use Rattle.command.specs.declared.Kind.the-variants.{Fence}
-use Rattle.command.specs.Commands.{Known, kindIn, commands}
+use Rattle.command.specs.Commands.{Known, entry, kindIn, commands}
 use Rattle.effect.specs.declared.Marks.{Marks}
-use Rattle.effect.specs.Effects.{Scene, Machine, done}
+use Rattle.effect.specs.Effects.{Scene, Machine, Paints, done}
 use Rattle.run.specs.declared.RunEnd.{RunEnd}
 use Rattle.run.specs.declared.RunEnd.the-variants.{Spent, Ended}
 use Rattle.run.specs.declared.RingRun.{RingRun}
@@ -44,6 +44,10 @@ turnIn s g next m w = unless (nextGood g next) (ends (Fault BadNext)) (turnOf (c
 -- No FENCE is among the first k commands that a line executes.
 abbrev pub NoFence : (Machine → List ℕ → O.Turn Machine) → ℕ → O.Line Machine → Type 0
 NoFence turn k a = (j : ℕ) → j < k → kindIn (O.straight turn j a .words) ≡ Fence → ⊥
+
+-- No fill or copy is among them.
+abbrev pub NoPainting : (Machine → List ℕ → O.Turn Machine) → ℕ → O.Line Machine → Type 0
+NoPainting turn k a = (j : ℕ) → j < k → Paints (entry (kindIn (O.straight turn j a .words)) .action (O.straight turn j a .words)) → ⊥
 
 -- "STOP passes it": n words on.
 abbrev pub passed : Ring → ℕ → Ring

@@ -8,6 +8,7 @@ use cursor::IMAGE_WORDS;
 use effect::Marks;
 use execution::Cause;
 use execution::End;
+use geometry::Frame;
 use ring::MAX_WORDS;
 use ring::Ring;
 ghost use mathlib.Core.Path.{_≡_};
@@ -254,11 +255,10 @@ fn row_turns(
     memory: &mut [u32],
     framebuffer: &[u32],
     screen: &mut [u32],
-    width: u32,
-    rows: u32,
+    frame: Frame,
 ) -> RowEnd
     requires { ⌜ (4 ≤ from) × (from ≤ end) × (end ≤ length (now memory)) × (end ≤ maxWords) × Clear posts from ⌝ }
-    ensures { λ r. ⌜ RowGoing (scene width rows (now (framebuffer .entry)) posts) budget (now (memory .entry)) from end before (now (screen .entry))
+    ensures { λ r. ⌜ RowGoing (scene frame (now (framebuffer .entry)) posts) budget (now (memory .entry)) from end before (now (screen .entry))
         (r .at) (r .fence) (r .left) (now (memory .exit)) (now (screen .exit))
         × (1 ≤ r .left → pauseOf (stepIn tt (rowIn (now (memory .entry)) (r .at) end)) ≡ Spent → ⊥) ⌝ }
 {
@@ -270,7 +270,7 @@ fn row_turns(
         let Step::Does(action, size) = step else {
             return RowEnd { at, fence, left };
         };
-        effect::draw(action, framebuffer, screen, width, rows);
+        effect::draw(action, framebuffer, screen, frame);
         post_fence(action, posts, memory);
         at += size;
         stamp(memory, at);
@@ -315,25 +315,13 @@ fn line_turn(
     line: &mut [u32],
     framebuffer: &[u32],
     screen: &mut [u32],
-    width: u32,
-    rows: u32,
+    frame: Frame,
 ) -> Paused
     requires { ⌜ (7 ≤ end) × (end ≤ length (now line)) × (end ≤ maxWords) ⌝ }
-    ensures { λ r. ⌜ RowRun (scene width rows (now (framebuffer .entry)) posts) 1 (now (line .entry)) 7 end before (now (screen .entry))
+    ensures { λ r. ⌜ RowRun (scene frame (now (framebuffer .entry)) posts) 1 (now (line .entry)) 7 end before (now (screen .entry))
         r (now (line .exit)) (now (screen .exit)) ⌝ }
 {
-    let p = row_turns(
-        7,
-        end,
-        before,
-        1,
-        posts,
-        line,
-        framebuffer,
-        screen,
-        width,
-        rows,
-    );
+    let p = row_turns(7, end, before, 1, posts, line, framebuffer, screen, frame);
     let at = p.at;
     let fence = p.fence;
     let left = p.left;
@@ -479,12 +467,11 @@ fn one_turn(
     framebuffer: &[u32],
     screen: &mut [u32],
     cursor: &mut [u32],
-    width: u32,
-    rows: u32,
+    frame: Frame,
 ) -> Turned
     requires { ⌜ Stands posts v (now ring) (now cursor) ⌝ }
     ensures { λ r. ⌜ after posts r (now (ring .exit)) (now (screen .exit)) (now (cursor .exit))
-        ≡ turned (scene width rows (now (framebuffer .entry)) posts) v (now (ring .entry))
+        ≡ turned (scene frame (now (framebuffer .entry)) posts) v (now (ring .entry))
         (machine marks (now (screen .entry)) (now (cursor .entry)) (postedIn posts (now (ring .entry)))) ⌝ }
 {
     let n = v.n;
@@ -500,8 +487,7 @@ fn one_turn(
         &mut line,
         framebuffer,
         screen,
-        width,
-        rows,
+        frame,
     );
     let why = p.why;
     match why {
@@ -548,12 +534,11 @@ fn turns(
     framebuffer: &[u32],
     screen: &mut [u32],
     cursor: &mut [u32],
-    w: u32,
-    h: u32,
+    frame: Frame,
 ) -> RingRun
     requires { ⌜ Stands posts view (now ring) (now cursor) ⌝ }
     ensures { λ r. ⌜ ringOutcome r (now (ring .exit)) (now (screen .exit)) (now (cursor .exit))
-        ≡ runWords (turnOf (carried (view .lo) (view .hi)) (table (scene w h (now (framebuffer .entry)) posts))) (placeOf view) budget
+        ≡ runWords (turnOf (carried (view .lo) (view .hi)) (table (scene frame (now (framebuffer .entry)) posts))) (placeOf view) budget
         (now (ring .entry)) (wordsIn (now (ring .entry)) view)
         (machine before (now (screen .entry)) (now (cursor .entry)) (postedIn posts (now (ring .entry)))) ⌝ }
 {
@@ -572,14 +557,13 @@ fn turns(
             ring,
             framebuffer,
             screen,
-            w,
-            h,
+            frame,
         );
         v = pass(v, p.at - from);
         marks.fence = p.fence;
         left = p.left;
         if 0 < left {
-            let t = one_turn(v, marks, posts, ring, framebuffer, screen, cursor, w, h);
+            let t = one_turn(v, marks, posts, ring, framebuffer, screen, cursor, frame);
             let stop = t.stop;
             match stop {
                 Stop::Goes => {
@@ -628,7 +612,7 @@ fn posts_in(at: Ring) -> bool
     7 <= at.min
 }
 
-// Commands out of the ring, with MIN, MAX and STOP as they are remembered. The mode is width by rows.
+// Commands out of the ring, with MIN, MAX and STOP as they are remembered. The frame has the mode and the rows that fills and copies reach.
 // Rules out: MIN, MAX or STOP read again from the ring; 13 before the budget; a count that is not that of the commands consumed; ring words but words 3 and,
 // where fences are posted, 6 changed; a fence that is not the last posted.
 pub fn run(
@@ -639,11 +623,10 @@ pub fn run(
     framebuffer: &[u32],
     screen: &mut [u32],
     cursor: &mut [u32],
-    width: u32,
-    rows: u32,
+    frame: Frame,
 ) -> RingRun
     ensures { λ r. ⌜ ringOutcome r (now (ring .exit)) (now (screen .exit)) (now (cursor .exit))
-        ≡ runIn (scene width rows (now (framebuffer .entry)) (postsIn at)) at budget (now (ring .entry))
+        ≡ runIn (scene frame (now (framebuffer .entry)) (postsIn at)) at budget (now (ring .entry))
         (machine marks (now (screen .entry)) (now (cursor .entry)) (postedIn (postsIn at) (now (ring .entry)))) ⌝ }
 {
     let fits = is_fitting(at, ring.len(), cursor.len());
@@ -676,7 +659,6 @@ pub fn run(
         framebuffer,
         screen,
         cursor,
-        width,
-        rows,
+        frame,
     )
 }

@@ -6,13 +6,13 @@ use mathlib.Core.Option.{Option, none, some}
 use lib.Dec.{eqb}
 use lib.ListN.{length}
 use Rattle.device.specs.declared.Device.{Device}
-use Rattle.adapter.specs.declared.Edges.{Edges}
+use Rattle.offscreen.specs.declared.Edges.{Edges}
 use Rattle.device.specs.Making.{madeOf}
 use Rattle.adapter.specs.Picture.{Pictured, pictureOf}
 use Rattle.register_read.specs.Registers.{bit, readOf}
 use Rattle.register_write.specs.Registers.{written}
 use Rattle.device_run.specs.Run.{Lent, RunOutcome, runOf}
-use Rattle.adapter.specs.Offscreen.{offscreenOf}
+use Rattle.offscreen.specs.Offscreen.{offscreenOf}
 use Rattle.adapter.specs.Fence.{fenceOf, fencePassed}
 use Rattle.device_words.specs.declared.Held.{Held}
 use Rattle.device_words.specs.declared.Held.the-variants.{Device as Holds, Nothing}

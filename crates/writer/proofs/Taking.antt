@@ -180,7 +180,7 @@ no-fault : (cap : ℕ) (head : List ℕ) → isCommand cap head ≡ true → Wou
 no-fault cap head e faults =
     let number = passes cap head e .number in
     let w = whole-zeros head number in
-    let s = scene 0 0 [] false in
+    let s = scene (record { width = 0; height = 0; rows = 0 }) [] false in
     let m = machine (record { fence = 0; defined = Undefined }) [] [] 0 in
     let t = taken-turn knownOf (done s) cap m head _ (whole-begins cap head _ number w) e in
     ⊎-elim (λ q. let z = sym t ∙ q in true≢false cc) (λ q. let z = sym t ∙ q in true≢false cc) (faults s m _ w)

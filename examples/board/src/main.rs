@@ -3,23 +3,32 @@
 //!     board FOLDER
 //!
 //! Rectangles are unsigned, so they reach right and down. The chart is therefore drawn standing on its head, a level being a height from
-//! its row of 0 m: whatever a wave's height, it is handed to the device as it is, and the device cuts it at the screen's edge. Then the
-//! rows are swapped by copies with XOR, and the labels come on top.
+//! its row of 0 m: whatever a wave's height, it is handed to the device as it is, and the device cuts it where the screen ends.
+//!
+//! The chart is kept in offscreen rows, behind the mode's, and blank paper with it. As hours pass it scrolls there, and the new ones are
+//! drawn on paper that comes in at its right. To be shown, its rows are copied into the mode, the last first; then labels come on top.
 
 mod files;
 mod font;
 mod pointer;
 
+use std::ops::Range;
 use std::path::Path;
 use std::{env, fs, process};
 use svga::{cursor_on, limit, reg, rop, Adapter, Command, Error, Rect};
 
 const WIDTH: u32 = 640;
 const HEIGHT: u32 = 360;
+/// The offscreen rows: first the paper, then the chart, up to the last one, so that a wave above the picture ends where the screen does.
+const PAPER: u32 = HEIGHT;
+const CHART: u32 = 2 * HEIGHT;
+const ROWS: u32 = 3 * HEIGHT;
 /// The chart: the columns of its 24 hours, and the rows below 0 m.
 const LEFT: u32 = 44;
 const HOUR: u32 = 24;
 const ACROSS: u32 = 24 * HOUR;
+/// The columns by which it scrolls: grid and ticks are the same again after three hours.
+const STEP: u32 = 3 * HOUR;
 const BASE: u32 = 36;
 const METRE: u32 = 48;
 /// The axis goes to here. The curve does not care.
@@ -83,77 +92,89 @@ impl Board {
         Ok(())
     }
 
+    fn copy(&mut self, sx: u32, sy: u32, x: u32, y: u32, w: u32, h: u32) -> Result<(), Error> {
+        self.adapter.submit(&Command::RectCopy { sx, sy, to: Rect::new(x, y, w, h) })
+    }
+
     /// Repeats a strip of `first` columns until it is `whole` wide, doubling it by copies.
     fn repeat(&mut self, y: u32, h: u32, first: u32, whole: u32) -> Result<(), Error> {
         let mut done = first;
         while done < whole {
             let w = done.min(whole - done);
-            self.adapter.submit(&Command::RectCopy { sx: LEFT, sy: y, to: Rect::new(LEFT + done, y, w, h) })?;
+            self.copy(LEFT, y, LEFT + done, y, w, h)?;
             done += w;
         }
         Ok(())
     }
 
-    /// The ground and the axes, on their head: row 0 is the lowest.
-    fn axes(&mut self) -> Result<(), Error> {
+    /// The ground and the axes, on their head: the first row is the lowest.
+    fn paper(&mut self) -> Result<(), Error> {
         for row in 0..HEIGHT {
             let up = |low: u32, high: u32| (low * (HEIGHT - row) + high * row) / HEIGHT;
-            self.fill(up(14, 9) << 16 | up(30, 17) << 8 | up(56, 32), 0, row, WIDTH, 1)?;
+            self.fill(up(14, 9) << 16 | up(30, 17) << 8 | up(56, 32), 0, PAPER + row, WIDTH, 1)?;
         }
-        let quay = BASE + pixels(QUAY);
+        let base = PAPER + BASE;
+        let quay = base + pixels(QUAY);
         self.combine(rop::OR, ZONE, LEFT, quay, ACROSS, u32::MAX)?; // the flood zone has no upper end
         self.fill(AMBER, LEFT, quay, 7, 1)?;
         self.repeat(quay, 1, 12, ACROSS)?;
         for metre in 0..=AXIS_MAXIMUM {
-            let row = BASE + metre * METRE;
+            let row = base + metre * METRE;
             self.combine(rop::OR, 0x10_1818, LEFT, row, ACROSS, 1)?;
             self.fill(AXIS, LEFT - 6, row, 6, 1)?;
             if metre < AXIS_MAXIMUM {
                 self.fill(AXIS, LEFT - 3, row + METRE / 2, 3, 1)?;
             }
         }
-        self.fill(AXIS, LEFT - 1, BASE, 1, AXIS_MAXIMUM * METRE + 1)?;
-        for hour in (3..=24).step_by(3) {
-            self.combine(rop::OR, 0x10_1818, LEFT + hour * HOUR, BASE + 1, 1, AXIS_MAXIMUM * METRE)?;
+        self.fill(AXIS, LEFT - 1, base, 1, AXIS_MAXIMUM * METRE + 1)?;
+        for hour in (0..=24).step_by(3) {
+            self.combine(rop::OR, 0x10_1818, LEFT + hour * HOUR, base + 1, 1, AXIS_MAXIMUM * METRE)?;
         }
-        self.fill(AXIS, LEFT, BASE - 6, 1, 6)?; // ticks of three hours, then copies
-        self.fill(AXIS, LEFT + HOUR, BASE - 3, 1, 3)?;
-        self.fill(AXIS, LEFT + 2 * HOUR, BASE - 3, 1, 3)?;
-        self.repeat(BASE - 6, 6, 3 * HOUR, ACROSS + 1)?;
-        self.fill(AXIS, LEFT - 1, BASE - 1, ACROSS + 2, 1)
+        self.fill(AXIS, LEFT, base - 6, 1, 6)?; // ticks of three hours, then copies
+        self.fill(AXIS, LEFT + HOUR, base - 3, 1, 3)?;
+        self.fill(AXIS, LEFT + 2 * HOUR, base - 3, 1, 3)?;
+        self.repeat(base - 6, 6, STEP, ACROSS + 1)?;
+        self.fill(AXIS, LEFT - 1, base - 1, ACROSS + 2, 1)
     }
 
-    /// The water of each column with its crest, on its head: any height will do.
-    fn tide(&mut self) -> Result<(), Error> {
-        let quay = pixels(QUAY);
-        let heights: Vec<u32> = (0..=ACROSS).map(|column| pixels(level(f64::from(column) / f64::from(HOUR)))).collect();
-        for (x, pair) in (LEFT..).zip(heights.windows(2)) {
-            let height = pair[1];
-            self.combine(rop::OR, WATER, x, BASE, 1, height)?;
-            self.combine(rop::OR, SHALLOW, x, BASE + height.saturating_sub(5), 1, height.min(5))?;
+    /// The water of some columns with its crest, on its head: any height will do. Columns count from 00:00; the chart begins at `first`.
+    fn tide(&mut self, first: i32, columns: Range<i32>) -> Result<(), Error> {
+        let (base, quay) = (CHART + BASE, pixels(QUAY));
+        for column in columns {
+            let x = LEFT + (column - first) as u32;
+            let [left, height] = [column, column + 1].map(|edge| pixels(level(f64::from(edge) / f64::from(HOUR))));
+            self.combine(rop::OR, WATER, x, base, 1, height)?;
+            self.combine(rop::OR, SHALLOW, x, base + height.saturating_sub(5), 1, height.min(5))?;
             if height > quay {
-                self.combine(rop::AND, NOT_BLUE, x, BASE + quay, 1, height - quay)?;
-                self.combine(rop::OR, FLOOD, x, BASE + quay, 1, height - quay)?;
+                self.combine(rop::AND, NOT_BLUE, x, base + quay, 1, height - quay)?;
+                self.combine(rop::OR, FLOOD, x, base + quay, 1, height - quay)?;
             }
-        }
-        for (x, pair) in (LEFT..).zip(heights.windows(2)) {
-            let (low, high) = (pair[0].min(pair[1]), pair[0].max(pair[1]));
+            let (low, high) = (left.min(height), left.max(height));
             let colour = if high > quay { FLOOD_CREST } else { CREST };
-            self.combine(rop::OR, 0x30_5050, x, BASE + low - 2, 1, high - low + 5)?;
-            self.fill(colour, x, BASE + low - 1, 1, high - low + 2)?;
+            self.combine(rop::OR, 0x30_5050, x, base + low - 2, 1, high - low + 5)?;
+            self.fill(colour, x, base + low - 1, 1, high - low + 2)?;
         }
         Ok(())
     }
 
-    /// Puts the picture on its feet: row by row, each pair swapped by three copies with XOR.
-    fn turn(&mut self) -> Result<(), Error> {
-        for upper in 0..HEIGHT / 2 {
-            let lower = HEIGHT - 1 - upper;
-            for (from, to) in [(lower, upper), (upper, lower), (lower, upper)] {
-                self.adapter.submit(&Command::RectRopCopy { sx: 0, sy: from, to: Rect::new(0, to, WIDTH, 1), rop: rop::XOR })?;
-            }
-        }
-        Ok(())
+    /// The chart from column `first` on, 24 hours of it.
+    fn chart(&mut self, first: i32) -> Result<(), Error> {
+        self.copy(0, PAPER, 0, CHART, WIDTH, HEIGHT)?;
+        self.tide(first, first..first + ACROSS as i32)
+    }
+
+    /// Three hours on, where nobody looks: the chart moves to the left, paper comes in at the right, and on it the new hours. Then it
+    /// begins at column `first`.
+    fn scroll(&mut self, first: i32) -> Result<(), Error> {
+        self.copy(LEFT + STEP, CHART, LEFT, CHART, ACROSS - STEP, HEIGHT)?;
+        self.copy(LEFT, PAPER, LEFT + ACROSS - STEP, CHART, STEP, HEIGHT)?;
+        let end = first + ACROSS as i32;
+        self.tide(first, end - STEP as i32..end)
+    }
+
+    /// Shows the chart, on its feet.
+    fn show(&mut self) -> Result<(), Error> {
+        (0..HEIGHT).try_for_each(|row| self.copy(0, ROWS - 1 - row, 0, row, WIDTH, 1))
     }
 
     fn labels(&mut self) -> Result<(), Error> {
@@ -219,13 +240,17 @@ impl Board {
     }
 }
 
-/// The board as an adapter shows it.
-fn draw() -> Result<Adapter, Error> {
-    let mut board = Board { adapter: Adapter::new(65_536, WIDTH * HEIGHT)? };
+/// The board at midnight, as an adapter shows it: begun so many times three hours before, and scrolled since.
+fn draw(steps: i32) -> Result<Adapter, Error> {
+    let mut board = Board { adapter: Adapter::new(65_536, WIDTH * ROWS)? };
     board.adapter.start_at(limit::RING_START_FENCE, WIDTH, HEIGHT)?;
-    board.axes()?;
-    board.tide()?;
-    board.turn()?;
+    board.paper()?;
+    board.chart(-steps * STEP as i32)?;
+    for left in (0..steps).rev() {
+        board.show()?;
+        board.scroll(-left * STEP as i32)?;
+    }
+    board.show()?;
     board.labels()?;
     board.legend()?;
     board.cursor(452, 96)?;
@@ -234,7 +259,7 @@ fn draw() -> Result<Adapter, Error> {
 }
 
 fn write(folder: &Path) -> Result<(), Box<dyn std::error::Error>> {
-    let mut adapter = draw()?;
+    let mut adapter = draw(2)?;
     let picture = adapter.picture()?;
     fs::create_dir_all(folder)?;
     for (name, file) in [("board.ppm", files::ppm(&picture)), ("board.png", files::png(&picture))] {
@@ -278,7 +303,7 @@ mod tests {
 
     #[test]
     fn a_wave_is_cut_at_the_screens_edge_and_nowhere_else() {
-        let adapter = draw().unwrap();
+        let adapter = draw(2).unwrap();
         let (axis, screen) = (AXIS_MAXIMUM * METRE, HEIGHT - BASE);
         let (mut above_axis, mut above_screen) = (0, 0);
         for x in 0..ACROSS {
@@ -305,7 +330,7 @@ mod tests {
 
     #[test]
     fn crests_stand_where_the_level_is() {
-        let adapter = draw().unwrap();
+        let adapter = draw(2).unwrap();
         for x in 0..ACROSS {
             let height = height(x);
             if height + 2 < HEIGHT - BASE {
@@ -315,9 +340,21 @@ mod tests {
         }
     }
 
+    /// What was scrolled is what would have been drawn at once, and what nobody sees is not in the picture.
+    #[test]
+    fn scrolling_does_not_show() {
+        let mode = (WIDTH * HEIGHT) as usize;
+        let at_once = draw(0).unwrap();
+        for steps in 1..=8 {
+            let mut scrolled = draw(steps).unwrap();
+            assert!(scrolled.screen()[..mode] == at_once.screen()[..mode], "begun {steps} times three hours before");
+            assert_eq!(scrolled.picture().unwrap().pixels.len(), mode);
+        }
+    }
+
     #[test]
     fn nothing_is_left_in_the_ring() {
-        let mut adapter = draw().unwrap();
+        let mut adapter = draw(2).unwrap();
         assert_eq!((adapter.fence(), adapter.posted_fence()), (1, Some(1)));
         assert_eq!(adapter.run(1).unwrap().to_string(), "drained, 0 commands consumed");
     }

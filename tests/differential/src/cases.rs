@@ -1,4 +1,4 @@
-//! Document 01's "Numbers to hold against it" and its console example, and numbers for 02's P1, P2 and P4, on the library and the model.
+//! Document 01's "Numbers to hold against it" and its console example, and numbers for 02's P1, P2, P4 and P5, on library and model.
 
 use crate::alarm;
 use crate::counts::Counts;
@@ -6,6 +6,7 @@ use crate::model::Model;
 use crate::pair::Pair;
 use crate::step::Step;
 
+mod offscreen;
 mod writer;
 
 const MEMORY: u32 = 10_256;
@@ -38,8 +39,13 @@ impl Bench {
 
     /// A device with these ring words, enabled and configured, and a mode that fills the pixels.
     fn accepted(&mut self, ring: [u32; 4], width: u32, height: u32) {
+        self.accepted_in(ring, width, height, width * height);
+    }
+
+    /// The same with so many pixels.
+    fn accepted_in(&mut self, ring: [u32; 4], width: u32, height: u32, pixels: u32) {
         self.pair = Pair::new(Model::new(None), self.exact);
-        let (memory, pixels) = (ring[1], width * height);
+        let memory = ring[1];
         self.step(Step::Memories { ring: memory as usize / 4, pixels: pixels as usize, fill: 0 });
         let lengths = self.pair.right_lengths();
         self.step(Step::Make { lengths, memory, pixels });
@@ -243,6 +249,8 @@ pub fn hold(exact: bool) -> bool {
     b.step(Step::Offscreen { lengths });
     let edges = b.pair.expected.edges.first(4).to_vec();
     b.holds("P4, the offscreen rectangle at width 1,024", edges == [0, 4, 1024, 6]);
+
+    offscreen::hold(&mut b);
 
     for line in &b.failed {
         println!("failed: the documents' numbers: {line}");

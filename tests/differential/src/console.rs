@@ -149,7 +149,9 @@ fn random_input(seed: u64) -> Vec<u8> {
     let mut random = Random::new(seed);
     let mut input = String::new();
     if random.chance(9, 10) {
-        input.push_str("w\t2\t32\nw\t3\t32\nw\t1\t1\nw\t20\t1\n");
+        // All 1,024 pixels, or some rows and a rest of them offscreen.
+        let (width, height) = random.of(&[(32, 32), (32, 20), (33, 9)]);
+        let _ = write!(input, "w\t2\t{width}\nw\t3\t{height}\nw\t1\t1\nw\t20\t1\n");
     }
     for _ in 0..random.below(400) {
         random_line(&mut random, &mut input);

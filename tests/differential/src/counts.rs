@@ -100,7 +100,21 @@ events! {
     BusyCleared: "runs that cleared BUSY", 100_000;
     FaultCleared: "faults cleared by CONFIG_DONE 1", 40_000;
     CopyOfCutSource: "copies cut by their source alone", 15_000;
-    Largest: "commands executed in modes of a million pixels and more", 10;
+    FillOffscreen: "fills of offscreen rows alone", 12_000;
+    FillAcross: "fills of rows of the mode and offscreen rows", 9000;
+    CopyToOffscreen: "copies from the mode to offscreen rows", 3000;
+    CopyFromOffscreen: "copies from offscreen rows to the mode", 2500;
+    CopyWithinOffscreen: "copies from offscreen rows to offscreen rows", 9000;
+    CopyAcross: "copies that cross the mode's last row, offscreen rows behind it", 15_000;
+    OverlapAcross: "overlapping copies among them", 9000;
+    BeyondRows: "fills and copies that go on over the last whole row to words behind it", 12_000;
+    SourceBeyondRows: "copies whose source goes on over the last whole row to words behind it", 5000;
+    NoRows: "fills and copies that go on over the mode's last row, no offscreen row behind it", 20_000;
+    ManyRows: "fills and copies of rows from 1,600 on", 1500;
+    UpdateAcross: "UPDATEs cut at the mode's last row, offscreen rows behind it", 4500;
+    UpdateOffscreen: "UPDATEs of offscreen rows alone", 5000;
+    PictureOffscreen: "pictures with offscreen rows behind the mode", 25_000;
+    Largest: "commands executed in screens of a million pixels and more", 10;
     Wide: "overlapping copies in modes at least 2,000 wide", 500;
     CursorInside: "cursors drawn wholly inside", 1000;
     CursorPartly: "cursors drawn partly outside", 9000;
@@ -167,7 +181,7 @@ pub struct Counts {
     pub calls: u64,
     answers: [[u64; 64]; CALLS.len()],
     commands: [u64; 9],
-    /// Painting commands that a mode's edge cut, and those that painted nothing.
+    /// Painting commands that an edge cut, and those that painted nothing.
     cut: [u64; 9],
     empty: [u64; 9],
     /// Raster operations of fills, and of overlapping copies by direction.
@@ -362,54 +376,90 @@ impl Counts {
     fn executed(&mut self, executed: &Executed) {
         self.event(Event::RingWrap, executed.wrapped);
         self.event(Event::Straddled, executed.straddled);
-        let (width, height) = executed.mode;
-        self.event(Event::Largest, width * height >= 1_000_000);
+        self.event(Event::Largest, executed.mode.0 * executed.rows >= 1_000_000);
         let number = match &executed.command {
-            Command::Update(rect) => self.painted(0, rect, executed.mode),
-            Command::Fill { rect, .. } => self.painted(1, rect, executed.mode),
-            Command::Copy { source, rect } => {
-                self.moved(*source, rect, SOURCE, executed.mode);
-                self.painted(2, rect, executed.mode)
-            }
+            Command::Update(rect) => self.updated(0, rect, executed),
+            Command::Fill { rect, .. } => self.filled(1, rect, executed),
+            Command::Copy { source, rect } => self.copied(2, *source, rect, SOURCE, executed),
             Command::RopFill { rect, operation, .. } => {
                 self.fills[*operation as usize] += 1;
-                self.painted(3, rect, executed.mode)
+                self.filled(3, rect, executed)
             }
-            Command::RopCopy { source, rect, operation } => {
-                self.moved(*source, rect, *operation, executed.mode);
-                self.painted(4, rect, executed.mode)
-            }
+            Command::RopCopy { source, rect, operation } => self.copied(4, *source, rect, *operation, executed),
             Command::DefineCursor { cursor: Cursor { w, h, .. }, .. } => {
                 self.cursor_widths[*w as usize] += 1;
                 self.cursor_heights[*h as usize] += 1;
                 5
             }
-            Command::UpdateVerbose { rect, .. } => self.painted(6, rect, executed.mode),
+            Command::UpdateVerbose { rect, .. } => self.updated(6, rect, executed),
             Command::Fence(_) => 7,
             Command::Escape { .. } => 8,
         };
         self.commands[number] += 1;
     }
 
-    /// Counts a rectangle that was cut in part, or to nothing. Gives the command's number back.
-    fn painted(&mut self, number: usize, rect: &Rect, (width, height): (u64, u64)) -> usize {
-        let visible = rect.x < width && rect.y < height && rect.w > 0 && rect.h > 0;
-        let beyond = rect.x + rect.w > width || rect.y + rect.h > height;
+    /// Counts a rectangle that was cut to so many rows in part, or to nothing. Gives the command's number back.
+    fn painted(&mut self, number: usize, rect: &Rect, width: u64, rows: u64) -> usize {
+        let visible = rect.x < width && rect.y < rows && rect.w > 0 && rect.h > 0;
+        let beyond = rect.x + rect.w > width || rect.y + rect.h > rows;
         self.cut[number] += u64::from(visible && beyond);
         self.empty[number] += u64::from(!visible);
         number
     }
 
-    fn moved(&mut self, (sx, sy): (u64, u64), rect: &Rect, operation: u64, (width, height): (u64, u64)) {
-        if sx >= width || rect.x >= width || sy >= height || rect.y >= height {
-            return;
+    /// "UPDATE and pictures keep to the mode."
+    fn updated(&mut self, number: usize, rect: &Rect, executed: &Executed) -> usize {
+        let ((width, height), rows) = (executed.mode, executed.rows);
+        let part = Part::of(rect.y, rect.h, height, rows);
+        let some = rect.x < width && rect.w > 0;
+        self.event(Event::UpdateAcross, some && part == Part::Both);
+        self.event(Event::UpdateOffscreen, some && part == Part::Offscreen);
+        self.painted(number, rect, width, height)
+    }
+
+    fn filled(&mut self, number: usize, rect: &Rect, executed: &Executed) -> usize {
+        let ((width, height), rows) = (executed.mode, executed.rows);
+        let part = Part::of(rect.y, rect.h, height, rows);
+        let some = rect.x < width && rect.w > 0;
+        self.event(Event::FillOffscreen, some && part == Part::Offscreen);
+        self.event(Event::FillAcross, some && part == Part::Both);
+        self.beyond(rect, executed);
+        self.painted(number, rect, width, rows)
+    }
+
+    /// What a fill's or a copy's destination finds behind the mode's last row, and behind the last whole one.
+    fn beyond(&mut self, rect: &Rect, executed: &Executed) {
+        let ((width, height), rows) = (executed.mode, executed.rows);
+        let some = rect.x < width && rect.w > 0;
+        let bottom = rect.y + rect.h;
+        self.event(Event::BeyondRows, rect.w > 0 && rect.x < executed.rest && rect.y < rows && bottom > rows);
+        self.event(Event::NoRows, some && rows == height && rect.y < rows && bottom > rows);
+        self.event(Event::ManyRows, some && rect.h > 0 && rect.y < rows && bottom.min(rows) > 1600);
+    }
+
+    fn copied(&mut self, number: usize, (sx, sy): (u64, u64), rect: &Rect, operation: u64, executed: &Executed) -> usize {
+        let ((width, height), rows) = (executed.mode, executed.rows);
+        self.beyond(rect, executed);
+        self.painted(number, rect, width, rows);
+        if sx >= width || rect.x >= width || sy >= rows || rect.y >= rows {
+            return number;
         }
-        let columns = rect.w.min(width - sx).min(width - rect.x);
-        let rows = rect.h.min(height - sy).min(height - rect.y);
-        let destination_cut = rect.x + rect.w > width || rect.y + rect.h > height;
-        let source_cut = sx + rect.w > width || sy + rect.h > height;
-        self.event(Event::CopyOfCutSource, columns > 0 && rows > 0 && source_cut && !destination_cut);
-        if rect.x.abs_diff(sx) < columns && rect.y.abs_diff(sy) < rows {
+        let moved_columns = rect.w.min(width - sx).min(width - rect.x);
+        let moved_rows = rect.h.min(rows - sy).min(rows - rect.y);
+        if moved_columns == 0 || moved_rows == 0 {
+            return number;
+        }
+        let destination_cut = rect.x + rect.w > width || rect.y + rect.h > rows;
+        let source_cut = sx + rect.w > width || sy + rect.h > rows;
+        self.event(Event::CopyOfCutSource, source_cut && !destination_cut);
+        self.event(Event::SourceBeyondRows, sx < executed.rest && sy + rect.h > rows && rect.y + (rows - sy) < rows);
+        let [from, to] = [sy, rect.y].map(|first| Part::of(first, moved_rows, height, rows));
+        self.event(Event::CopyToOffscreen, (from, to) == (Part::Mode, Part::Offscreen));
+        self.event(Event::CopyFromOffscreen, (from, to) == (Part::Offscreen, Part::Mode));
+        self.event(Event::CopyWithinOffscreen, (from, to) == (Part::Offscreen, Part::Offscreen));
+        let across = from == Part::Both || to == Part::Both;
+        self.event(Event::CopyAcross, across);
+        if rect.x.abs_diff(sx) < moved_columns && rect.y.abs_diff(sy) < moved_rows {
             let towards = |from: u64, to: u64| match to.cmp(&from) {
                 std::cmp::Ordering::Less => 0,
                 std::cmp::Ordering::Equal => 1,
@@ -417,10 +467,13 @@ impl Counts {
             };
             self.overlaps[operation as usize][3 * towards(sy, rect.y) + towards(sx, rect.x)] += 1;
             self.event(Event::Wide, width >= 2000);
+            self.event(Event::OverlapAcross, across);
         }
+        number
     }
 
     fn picture(&mut self, device: &Device, pair: &Pair) {
+        self.event(Event::PictureOffscreen, device.pixels / device.width > device.height);
         let Some(standing) = pair.model.cursor_in_picture(device) else {
             self.event(Event::CursorHidden, device.cursor.is_some());
             return;
@@ -449,7 +502,7 @@ impl Counts {
             print!("  {name} executed {} ({COMMAND_MINIMUM})", self.commands[number]);
             if PAINTING.contains(&number) {
                 let (cut, empty) = (self.cut[number], self.empty[number]);
-                print!(", cut at a mode's edge in part {cut} ({CUT_MINIMUM}), painted nothing {empty} ({EMPTY_MINIMUM})");
+                print!(", cut at an edge in part {cut} ({CUT_MINIMUM}), painted nothing {empty} ({EMPTY_MINIMUM})");
             }
             println!();
         }
@@ -534,6 +587,29 @@ impl Counts {
             }
         }
         short
+    }
+}
+
+/// Where rows of a screen lie.
+#[derive(Clone, Copy, PartialEq, Eq)]
+enum Part {
+    Mode,
+    Offscreen,
+    /// Some in the mode, some offscreen.
+    Both,
+    Nowhere,
+}
+
+impl Part {
+    /// Of some rows from a first one on, where the mode has `height` and the screen `rows`.
+    fn of(first: u64, count: u64, height: u64, rows: u64) -> Part {
+        let last = (first + count).min(rows);
+        match (first < height.min(last), height < rows && height.max(first) < last) {
+            (true, true) => Part::Both,
+            (true, false) => Part::Mode,
+            (false, true) => Part::Offscreen,
+            (false, false) => Part::Nowhere,
+        }
     }
 }
 

@@ -142,9 +142,10 @@ impl Generator {
         }
         self.push(Step::Make { lengths, memory: memory as u32, pixels: pixels as u32 });
         if self.large {
-            let width = self.random.of(&[2560, 2559, 2048]);
+            let width = self.random.of(&[2560, 2559, 2048, 1]);
+            let height = (pixels as u32 / width).min(1600) / self.random.of(&[1, 2]);
             self.push(Step::Write { lengths, index: 2, value: width });
-            self.push(Step::Write { lengths, index: 3, value: (pixels as u32 / width).min(1600) });
+            self.push(Step::Write { lengths, index: 3, value: height });
         }
     }
 
@@ -339,7 +340,7 @@ impl Generator {
         }
     }
 
-    /// A mode, mostly one that fits.
+    /// A mode, mostly one that fits, and often with fewer rows than there are pixels for: the others are offscreen.
     fn mode(&mut self, pair: &Pair, device: &Device) {
         let pixels = device.pixels;
         let r = &mut self.random;
@@ -354,10 +355,10 @@ impl Generator {
         };
         let mut height = (pixels / width).clamp(1, 1600);
         match r.below(12) {
-            0 => height = r.between(1, height),
-            1 => height = (height + 1).min(1600),
-            2 => width = (width + 1).min(2560),
-            3 => height -= height.min(2) - 1,
+            0 => height = (height + 1).min(1600),
+            1 => width = (width + 1).min(2560),
+            2 => height -= height.min(2) - 1,
+            3..=6 => height = r.between(1, height),
             _ => {}
         }
         if r.chance(1, 2) {
@@ -750,31 +751,30 @@ impl Generator {
 
     /// A command of an offered number.
     fn command_of(&mut self, number: u32, device: &Device, seen: &Seen) -> Vec<u32> {
-        let (width, height) = (device.width as u32, device.height as u32);
         match number {
             1 => {
-                let rect = self.rect(width, height);
+                let rect = self.rect(device, 3);
                 [&[1][..], &rect].concat()
             }
             25 => {
-                let rect = self.rect(width, height);
+                let rect = self.rect(device, 3);
                 let reason = self.value();
                 [&[25][..], &rect, &[reason]].concat()
             }
             2 => {
-                let rect = self.rect(width, height);
+                let rect = self.rect(device, 6);
                 let colour = self.colour();
                 [&[2, colour][..], &rect].concat()
             }
             13 => {
-                let rect = self.rect(width, height);
+                let rect = self.rect(device, 6);
                 let (colour, operation) = (self.colour(), self.operation());
                 [&[13, colour][..], &rect, &[operation]].concat()
             }
-            3 => [&[3][..], &self.move_of(width, height)].concat(),
+            3 => [&[3][..], &self.move_of(device)].concat(),
             14 => {
                 let operation = self.operation();
-                [&[14][..], &self.move_of(width, height), &[operation]].concat()
+                [&[14][..], &self.move_of(device), &[operation]].concat()
             }
             22 => self.cursor(seen),
             33 => self.escape(seen),
@@ -806,7 +806,21 @@ impl Generator {
         self.random.below(16) as u32
     }
 
-    /// A coordinate: mostly in the mode, else at its edge or far away.
+    /// The rows that a rectangle goes by: the mode's or, so many times in ten, all that the screen has.
+    fn rows(&mut self, device: &Device, all: u64) -> u32 {
+        let rows = if self.random.chance(all, 10) { device.pixels / device.width } else { device.height };
+        rows.max(1) as u32
+    }
+
+    /// A row, now and then one where the mode ends.
+    fn row(&mut self, device: &Device, edge: u32) -> u32 {
+        if self.random.chance(1, 8) {
+            return (device.height as u32).saturating_sub(2) + self.random.below(4) as u32;
+        }
+        self.coordinate(edge)
+    }
+
+    /// A coordinate: mostly before the edge, else at it or far away.
     fn coordinate(&mut self, edge: u32) -> u32 {
         let r = &mut self.random;
         match r.below(24) {
@@ -816,7 +830,7 @@ impl Generator {
         }
     }
 
-    /// An extent: mostly one that ends in the mode, else one that ends at its edge, is empty, or is very large.
+    /// An extent: mostly one that ends before the edge, else one that ends at it, is empty, or is very large.
     fn extent(&mut self, start: u32, edge: u32) -> u32 {
         let r = &mut self.random;
         let left = edge.saturating_sub(start);
@@ -838,20 +852,22 @@ impl Generator {
         }
     }
 
-    fn rect(&mut self, width: u32, height: u32) -> [u32; 4] {
-        let (x, y) = (self.coordinate(width), self.coordinate(height));
-        [x, y, self.extent(x, width), self.extent(y, height)]
+    fn rect(&mut self, device: &Device, all: u64) -> [u32; 4] {
+        let (width, rows) = (device.width as u32, self.rows(device, all));
+        let (x, y) = (self.coordinate(width), self.row(device, rows));
+        [x, y, self.extent(x, width), self.extent(y, rows)]
     }
 
     /// Source, destination and size of a copy: mostly near each other, so that they overlap.
-    fn move_of(&mut self, width: u32, height: u32) -> [u32; 6] {
-        let (sx, sy) = (self.coordinate(width), self.coordinate(height));
-        let (dx, dy) = if self.random.chance(1, 5) {
-            (self.coordinate(width), self.coordinate(height))
-        } else {
-            (self.near(sx, width), self.near(sy, height))
+    fn move_of(&mut self, device: &Device) -> [u32; 6] {
+        let (width, rows) = (device.width as u32, self.rows(device, 6));
+        let (sx, sy) = (self.coordinate(width), self.row(device, rows));
+        let (dx, dy) = match self.random.below(10) {
+            0..=1 => (self.coordinate(width), self.row(device, rows)),
+            2 => (self.near(sx, width), self.row(device, rows)),
+            _ => (self.near(sx, width), self.near(sy, rows)),
         };
-        [sx, sy, dx, dy, self.extent(sx.min(dx), width), self.extent(sy.min(dy), height)]
+        [sx, sy, dx, dy, self.extent(sx.min(dx), width), self.extent(sy.min(dy), rows)]
     }
 
     fn near(&mut self, place: u32, edge: u32) -> u32 {

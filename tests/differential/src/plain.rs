@@ -1,5 +1,5 @@
 //! 02's P3: "plain and raster versions must not drift apart". Command 2 against 13, and 3 against 14, with raster operation 3, on equal
-//! screens; places and sizes reach over every edge, and most copies overlap themselves.
+//! screens; places and sizes reach over every edge and into offscreen rows, and most copies overlap themselves.
 
 use crate::random::Random;
 use svga::{rop, Adapter, Command, Error, Rect};
@@ -17,9 +17,9 @@ fn number(random: &mut Random, side: u32) -> u32 {
     }
 }
 
-/// A plain command and the same with raster operation 3.
-fn both(random: &mut Random, width: u32, height: u32) -> [Command<'static>; 2] {
-    let place = |random: &mut Random| (number(random, width), number(random, height));
+/// A plain command and the same with raster operation 3, in so many rows.
+fn both(random: &mut Random, width: u32, rows: u32) -> [Command<'static>; 2] {
+    let place = |random: &mut Random| (number(random, width), number(random, rows));
     let ((sx, sy), (x, y), (w, h)) = (place(random), place(random), place(random));
     let to = Rect::new(x, y, w, h);
     if random.chance(1, 3) {
@@ -29,12 +29,13 @@ fn both(random: &mut Random, width: u32, height: u32) -> [Command<'static>; 2] {
     [Command::RectCopy { sx, sy, to }, Command::RectRopCopy { sx, sy, to, rop: rop::COPY }]
 }
 
-/// An adapter of this mode, with some pixels beyond it, that shows what its framebuffer holds.
+/// An adapter of this mode that shows what its framebuffer holds. Behind the mode it has some rows, with the same again, and some pixels.
 fn shown(width: u32, height: u32, framebuffer: &[u32]) -> Result<Adapter, Error> {
     let mut adapter = Adapter::new(65_536, framebuffer.len() as u32)?;
     adapter.start(width, height)?;
     adapter.framebuffer_mut().copy_from_slice(framebuffer);
     adapter.submit(&Command::Update(Rect::new(0, 0, width, height)))?;
+    adapter.submit(&Command::RectCopy { sx: 0, sy: 0, to: Rect::new(0, height, width, u32::MAX) })?;
     let _ = adapter.run(u32::MAX)?;
     Ok(adapter)
 }
@@ -45,12 +46,14 @@ fn held() -> Result<u32, String> {
     let mut changed = 0;
     for screen in 0..SCREENS {
         let (width, height) = (random.between(2, 70) as u32, random.between(2, 20) as u32);
-        let framebuffer: Vec<u32> = (0..width * height + random.below(50) as u32).map(|_| random.word()).collect();
+        let rows = height + random.below(10) as u32;
+        let rest = random.below(u64::from(width)) as u32;
+        let framebuffer: Vec<u32> = (0..width * rows + rest).map(|_| random.word()).collect();
         let mut plain = shown(width, height, &framebuffer).map_err(error)?;
         let mut raster = shown(width, height, &framebuffer).map_err(error)?;
         for _ in 0..COMMANDS {
             let before = plain.screen().to_vec();
-            let [one, other] = both(&mut random, width, height);
+            let [one, other] = both(&mut random, width, rows);
             plain.submit(&one).map_err(error)?;
             raster.submit(&other).map_err(error)?;
             let (ran, also) = (plain.run(u32::MAX).map_err(error)?, raster.run(u32::MAX).map_err(error)?);

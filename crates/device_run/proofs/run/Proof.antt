@@ -6,7 +6,7 @@ use borrow.Author.Needs.{needs}
 use borrow.Author.Tests.{not-true, not-false}
 use Rattle.device.specs.declared.Condition.{Condition}
 use Rattle.device.specs.declared.Device.{Device}
-use Rattle.device.specs.Device.{wellFormed}
+use Rattle.device.specs.Device.{modeFits, wellFormed}
 use Rattle.device_run.specs.Run.{Lent, lent, lentGood, runBy, runOf}
 use Rattle.device_run.proofs.RunLaws.{run-by}
 use Rattle.device_run.proofs.run.Statement.{statement}
@@ -62,10 +62,13 @@ module _ (c : tie.Else5) where
   abbrev at-1 : tie.Else1
   at-1 = past-well-formed (at-2 .before)
 
+  mode : modeFits (device at-1) ≡ true
+  mode = sym (c .before .mode-fits .ensures) ∙ not-false _ (c .if5 .left)
+
   by-condition : (k : Condition) → device at-1 .condition ≡ k
       → let b = start (at-1 .before) .args .budget in runOf (device at-1) (memories at-1) b ≡ runBy (device at-1) (memories at-1) b k
   by-condition k e =
-      run-by (device at-1) (memories at-1) _ k (good at-1) (right at-2) (configured at-3) (enabled at-4) (sym (c .before .mode-fits .ensures) ∙ not-false _ (c .if5 .left)) e
+      run-by (device at-1) (memories at-1) _ k (good at-1) (right at-2) (configured at-3) (enabled at-4) mode e
 
 -- ---- the returns
 
@@ -110,12 +113,16 @@ returns-6 c = rw (c .refused6 .ensures) (sym (by-condition (c .before .before .b
 abbrev at-run : tie.After-slice-known6 → tie.After-run-ring
 at-run c = c .before .before .before .before .before .before
 
-abbrev at-ring : tie.After-run-ring → tie.After-condition
-at-ring c = c .before .before .before .before .before
+abbrev at-ring : tie.After-run-ring-arg3 → tie.After-condition
+at-ring c = c .before .before .before .before
+
+-- the ring is run of a well-formed device whose mode fits
+run-ring-requires : tie.Need-run-ring-requires
+run-ring-requires c κs = let b = at-ring c .before .before in (good (at-1 b), mode b)
 
 returns-7 : tie.Need-returns-7
 returns-7 c =
-    let b = at-ring (at-run c) in at-run c .run-ring .ensures ∙ sym (by-condition (b .before .before) _ (b .condition .given .1))
+    let b = at-ring (at-run c .before) in at-run c .run-ring .ensures ∙ sym (by-condition (b .before .before) _ (b .condition .given .1))
 
 returns-8 : tie.Need-returns-8
 unfolding runBy
@@ -153,7 +160,7 @@ run-spec =
     (λ c. search needs)
     (λ c κs. search needs)
     (λ c. search needs)
-    (λ c κs. search needs)
+    run-ring-requires
     (λ c. search needs)
     (λ c κs. search needs)
     (λ c. search needs)

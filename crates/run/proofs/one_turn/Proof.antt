@@ -32,7 +32,7 @@ start c = c .before .before .before .before
 returns : tie.Need-returns
 returns c =
     let a = start (c .before .before) .args in
-    let s = scene (a .width) (a .rows) (a .framebuffer .now) (a .posts) in
+    let s = scene (a .frame) (a .framebuffer .now) (a .posts) in
     let m = machine (a .marks) (a .screen .now) (a .cursor .now) (postedIn (a .posts) (a .ring .now)) in
     rw (c .stopped .ensures) (stops s (a .v) (a .ring .now) m _ (turn-drained _ (a .v) (a .ring .now) _ (c .before .if1 .taken)))
 
@@ -57,7 +57,7 @@ module _ (c : tie.After-line-turn) where
   some-words = omega (arith, some filled .if1 .left)
 
   abbrev s : Scene
-  s = scene (entry .args .width) (entry .args .rows) (entry .args .framebuffer .now) (entry .args .posts)
+  s = scene (entry .args .frame) (entry .args .framebuffer .now) (entry .args .posts)
 
   abbrev m : Machine
   m = machine (entry .args .marks) (entry .args .screen .now) (entry .args .cursor .now) (postedIn (entry .args .posts) ring)

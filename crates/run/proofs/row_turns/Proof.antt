@@ -24,11 +24,11 @@ use Rattle.run.proofs.row_turns.Statement.{statement}
 use Rattle.run.proofs.row_turns.Tie as tie
 
 abbrev Inv-loop : tie.InvT-loop
-Inv-loop from end before budget posts memory₀ framebuffer screen₀ width rows at₀ fence₀ left₀ memory screen at fence left =
-    RowGoing (scene width rows framebuffer posts) budget memory₀ from end before screen₀ at fence left memory screen × (length screen ≡ length screen₀)
+Inv-loop from end before budget posts memory₀ framebuffer screen₀ frame at₀ fence₀ left₀ memory screen at fence left =
+    RowGoing (scene frame framebuffer posts) budget memory₀ from end before screen₀ at fence left memory screen × (length screen ≡ length screen₀)
 
 abbrev μ-loop : tie.MeasureT-loop
-μ-loop from end before budget posts memory₀ framebuffer screen₀ width rows at₀ fence₀ left₀ memory screen at fence left = left
+μ-loop from end before budget posts memory₀ framebuffer screen₀ frame at₀ fence₀ left₀ memory screen at fence left = left
 
 abbrev Start : tie.At-loop Inv-loop μ-loop → tie.Start Inv-loop μ-loop
 Start c = c .before .before .before .before

@@ -51,7 +51,7 @@ returns-3 c =
     let p = at-posts t in
     let v = at-view p in
     let e = past-next v in
-    t .turns .ensures ∙ run-posts _ _ _ _ _ _ _ _ _ _ _ (fits (past-fits (e .before))) (usable e) (v .view-of .ensures) (p .posts-in .ensures)
+    t .turns .ensures ∙ run-posts _ _ _ _ _ _ _ _ _ _ (fits (past-fits (e .before))) (usable e) (v .view-of .ensures) (p .posts-in .ensures)
 
 pub run-spec : {M : Type 1} → statement M
 run-spec =

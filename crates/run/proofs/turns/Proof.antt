@@ -16,13 +16,13 @@ use Rattle.run.proofs.turns.Statement.{statement}
 use Rattle.run.proofs.turns.Tie as tie
 
 abbrev Inv-loop : tie.InvT-loop
-Inv-loop budget posts ring₀ framebuffer screen₀ cursor₀ width rows v₀ marks₀ left₀ ring screen cursor v marks left =
-    Going (scene width rows framebuffer posts) budget v₀ ring₀ (machine marks₀ screen₀ cursor₀ (postedIn posts ring₀))
+Inv-loop budget posts ring₀ framebuffer screen₀ cursor₀ frame v₀ marks₀ left₀ ring screen cursor v marks left =
+    Going (scene frame framebuffer posts) budget v₀ ring₀ (machine marks₀ screen₀ cursor₀ (postedIn posts ring₀))
     v ring (machine marks screen cursor (postedIn posts ring)) left
     × (length screen ≡ length screen₀) × (length cursor ≡ length cursor₀)
 
 abbrev μ-loop : tie.MeasureT-loop
-μ-loop budget posts ring₀ framebuffer screen₀ cursor₀ width rows v₀ marks₀ left₀ ring screen cursor v marks left = left
+μ-loop budget posts ring₀ framebuffer screen₀ cursor₀ frame v₀ marks₀ left₀ ring screen cursor v marks left = left
 
 -- the entry, known from the loop, and where the loop stands
 module _ (c : tie.At-loop Inv-loop μ-loop) where

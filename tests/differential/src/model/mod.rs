@@ -1,5 +1,5 @@
-//! The device as document 01 has it, with what 02's P1 and P2 add, written from their sentences and from nothing else: whole numbers in 64
-//! bits, plain loops over pixels, no speed. The calls are those of the interface for C, on slices.
+//! The device as document 01 has it, with what 02's P1, P2, P4 and P5 change, written from their sentences and from nothing else: whole
+//! numbers in 64 bits, plain loops over pixels, no speed. The calls are those of the interface for C, on slices.
 //!
 //! A model may break one `Rule`: the driver has to find each of these.
 
@@ -108,7 +108,7 @@ impl Model {
             return 20;
         }
         let found = match from_words(device) {
-            Some(held) => self.edges(&held),
+            Some(held) => self.reported_edges(&held),
             None if self.breaks(Rule::OffscreenOfNoDevice) => [0; 4],
             None => return 30,
         };

@@ -87,6 +87,10 @@ impl Model {
                 };
             }
         }
+        if self.breaks(Rule::PictureShowsOffscreen) {
+            let (from, to) = (device.width * device.height, device.pixels / device.width * device.width);
+            output[from as usize..to as usize].copy_from_slice(&screen[from as usize..to as usize]);
+        }
         if self.breaks(Rule::OutputBeyondModeCleared) {
             output[(device.width * device.height) as usize..].fill(0);
         }

@@ -3,7 +3,8 @@
 use super::device::{Condition, Device, Ring};
 use super::{Model, Rule};
 
-const CAPABILITIES: u64 = 0x2D3;
+/// "17 CAPABILITIES 0x2D3", and 02's P5: "CAPABILITIES gains 0x1000."
+const CAPABILITIES: u64 = 0x2D3 + 0x1000;
 
 /// "Read-only: 4 .. 19, 22, 28"
 fn read_only(index: u64) -> bool {
@@ -193,6 +194,7 @@ impl Model {
             15 if self.breaks(Rule::VramSizeOfMode) => fb_size(device),
             15 => vram_size(device),
             16 => fb_size(device),
+            17 if self.breaks(Rule::CapabilitiesOfBase) => 0x2D3,
             17 => CAPABILITIES,
             19 => device.memory,
             20 => u64::from(device.config_done && !(self.breaks(Rule::FaultReadsUnconfigured) && faulted(device))),
@@ -210,20 +212,19 @@ impl Model {
         (0, value)
     }
 
-    /// 02's P4: "The right end is 8·BYTES_PER_LINE divided by bits per pixel". 01: "x from 0 .., y from FB_SIZE / BYTES_PER_LINE rounded
-    /// up to VRAM_SIZE / BYTES_PER_LINE, floors otherwise, ends excluded": left, top, right, bottom.
-    pub fn edges(&self, device: &Device) -> [u64; 4] {
-        let line = bytes_per_line(device);
-        let right = if self.breaks(Rule::OffscreenRightByDepth) { line / 24 } else { 8 * line / 32 };
-        let top = fb_size(device).div_ceil(line);
-        let mut bottom = vram_size(device) / line;
+    /// The usable offscreen rectangle, as it is reported.
+    pub fn reported_edges(&self, device: &Device) -> [u64; 4] {
+        let [left, top, mut right, mut bottom] = edges(device);
+        if self.breaks(Rule::OffscreenRightByDepth) {
+            right = bytes_per_line(device) / 24;
+        }
         if self.breaks(Rule::OffscreenBottomRoundedUp) {
-            bottom = vram_size(device).div_ceil(line);
+            bottom = vram_size(device).div_ceil(bytes_per_line(device));
         }
         if self.breaks(Rule::OffscreenEmptyCut) {
             bottom = bottom.max(top);
         }
-        [0, top, right, bottom]
+        [left, top, right, bottom]
     }
 
     /// "Fence f has passed if the last fence minus f, taken modulo 2^32, is below 2^31"
@@ -237,6 +238,13 @@ impl Model {
         let below = if self.breaks(Rule::FenceHalfIncluded) { (1 << 31) + 1 } else { 1 << 31 };
         (device.fence + (1 << 32) - fence) % (1 << 32) < below
     }
+}
+
+/// 02's P4: "The right end is 8·BYTES_PER_LINE divided by bits per pixel". 01: "x from 0 .., y from FB_SIZE / BYTES_PER_LINE rounded up to
+/// VRAM_SIZE / BYTES_PER_LINE, floors otherwise, ends excluded": left, top, right, bottom.
+pub fn edges(device: &Device) -> [u64; 4] {
+    let line = bytes_per_line(device);
+    [0, fb_size(device).div_ceil(line), 8 * line / 32, vram_size(device) / line]
 }
 
 fn faulted(device: &Device) -> bool {

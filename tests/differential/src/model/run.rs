@@ -26,6 +26,10 @@ pub struct Executed {
     pub from: u64,
     pub words: u64,
     pub mode: (u64, u64),
+    /// Rows that fills and copies reach: the mode's, and the offscreen ones behind them.
+    pub rows: u64,
+    /// Words of the screen behind those rows.
+    pub rest: u64,
     /// STOP came to MIN, or passed from MAX to MIN.
     pub wrapped: bool,
     /// Words of it stand on both sides of the ring's end.
@@ -175,16 +179,15 @@ impl Model {
     }
 
     fn execute(&self, device: &mut Device, command: &Command, framebuffer: &[u32], screen: &mut [u32], image: &mut [u32]) {
-        let mode = (device.width, device.height);
         match command {
-            Command::Update(rect) => self.update(mode, framebuffer, screen, rect),
+            Command::Update(rect) => self.update(device, framebuffer, screen, rect),
             // "as 1, reason (no effect)"
             Command::UpdateVerbose { .. } if self.breaks(Rule::VerbosePaintsNothing) => {}
-            Command::UpdateVerbose { rect, .. } => self.update(mode, framebuffer, screen, rect),
-            Command::Fill { colour, rect } => self.fill(mode, screen, *colour, rect, SOURCE),
-            Command::RopFill { colour, rect, operation } => self.fill(mode, screen, *colour, rect, *operation),
-            Command::Copy { source, rect } => self.copy(mode, screen, *source, rect, SOURCE),
-            Command::RopCopy { source, rect, operation } => self.copy(mode, screen, *source, rect, *operation),
+            Command::UpdateVerbose { rect, .. } => self.update(device, framebuffer, screen, rect),
+            Command::Fill { colour, rect } => self.fill(device, screen, *colour, rect, SOURCE),
+            Command::RopFill { colour, rect, operation } => self.fill(device, screen, *colour, rect, *operation),
+            Command::Copy { source, rect } => self.copy(device, framebuffer, screen, *source, rect, SOURCE),
+            Command::RopCopy { source, rect, operation } => self.copy(device, framebuffer, screen, *source, rect, *operation),
             // "Its pixels fill the first w·h cursor words, row by row; the rest stay."
             Command::DefineCursor { cursor, pixels } => {
                 device.cursor = Some(*cursor);
@@ -353,8 +356,9 @@ impl Model {
             if !(self.breaks(Rule::EmptyRectangleNotCounted) && empty) {
                 count += 1;
             }
-            let mode = (device.width, device.height);
-            self.executed.push(Executed { command, from, words: length, mode, wrapped: length >= words_to_end, straddled });
+            let (mode, rows, rest) = ((device.width, device.height), device.pixels / device.width, device.pixels % device.width);
+            let wrapped = length >= words_to_end;
+            self.executed.push(Executed { command, from, words: length, mode, rows, rest, wrapped, straddled });
         };
         // "The run changes no other ring word, and none if it consumed nothing." 02's P1: "A run then changes words 3 and 6 only".
         if self.breaks(Rule::StopWrittenUnasked) {

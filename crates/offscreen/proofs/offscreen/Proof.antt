@@ -1,15 +1,15 @@
--- `adapter::offscreen` meets its contract.
+-- `offscreen::offscreen` meets its contract.
 -- Assumes nothing.
 use borrow.Author.Needs.{needs}
 use mathlib.Core.Path.{_≡_, sym, _∙_}
 use mathlib.Core.Bool.{true}
 use borrow.Author.Tests.{not-true, not-false}
 use Rattle.register_read.specs.Registers.{readOnlyValue}
-use Rattle.adapter.specs.Offscreen.{offscreenOf}
+use Rattle.offscreen.specs.Offscreen.{offscreenOf}
 use Rattle.device.specs.Device.{wellFormed}
 use Rattle.device.proofs.Laws.{well-formed, fb-size-fits}
-use Rattle.adapter.proofs.offscreen.Statement.{statement}
-use Rattle.adapter.proofs.offscreen.Tie as tie
+use Rattle.offscreen.proofs.offscreen.Statement.{statement}
+use Rattle.offscreen.proofs.offscreen.Tie as tie
 
 -- the device is well-formed where its edges are asked for, and its entry there
 abbrev start : tie.After-g → tie.Start

@@ -1,12 +1,12 @@
 -- The right end of the offscreen rectangle: document 02, P4.
 -- Assumes nothing.
-use mathlib.Core.Path.{_≡_, _∙_}
+use mathlib.Core.Path.{_≡_}
 use mathlib.Core.Bool.{true}
 use native.Mathlib.Omega.{arith}
 use Rattle.device.specs.declared.Device.{Device}
 use Rattle.device.specs.Device.{widthOf, wellFormed}
 use Rattle.register_read.specs.Registers.{readOnlyValue}
-use Rattle.adapter.specs.Offscreen.{offscreenOf}
+use Rattle.offscreen.specs.Offscreen.{offscreenOf}
 
 -- "The right end is 8·BYTES_PER_LINE divided by bits per pixel": in every mode that is the width
 pub right-is-width : (d : Device) → wellFormed d ≡ true → offscreenOf d .right ≡ widthOf d

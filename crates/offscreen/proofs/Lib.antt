@@ -1,0 +1,2 @@
+pub mod RightEdge
+pub mod Joined
