@@ -24,7 +24,7 @@ static void set_up_both(uint32_t width, uint32_t height) {
 // ---- commands in the ring
 
 static void put_fence(uint32_t *at, size_t words, uint32_t number) {
-    put(ring, words, at, SVGA_CMD_FENCE), put(ring, words, at, number);
+    put(ring, words, at, SVGA_CMD_FENCE), put(ring, words, at, number + 1); // 0 is a fault
 }
 // A fill of one pixel in the first 64 by 64, which stay in the cache.
 static void put_dot(uint32_t *at, size_t words, uint32_t number) {

@@ -255,7 +255,9 @@ static uint64_t run_commands(struct peer *p, uint32_t budget) {
             break;
         case SVGA_CMD_FENCE:
             if (waiting < (words = 2)) return result(1, count);
-            p->fence = head(p, stop, 2, local)[1];
+            a = head(p, stop, 2, local);
+            if (a[1] == 0) return result(11, count);
+            p->fence = a[1];
             if (min >= SVGA_RING_START_FENCE / 4) ring[SVGA_FIFO_FENCE] = p->fence;
             break;
         case SVGA_CMD_ESCAPE:
@@ -331,7 +333,7 @@ static bool command_good(const uint32_t *a, size_t n, uint32_t *pixels, uint32_t
     case SVGA_CMD_RECT_ROP_FILL: return n == 7 && a[6] <= SVGA_ROP_SET;
     case SVGA_CMD_RECT_ROP_COPY: return n == 8 && a[7] <= SVGA_ROP_SET;
     case SVGA_CMD_UPDATE_VERBOSE: return n == 6;
-    case SVGA_CMD_FENCE: return n == 2;
+    case SVGA_CMD_FENCE: return n == 2 && a[1] != 0;
     case SVGA_CMD_DEFINE_ALPHA_CURSOR:
         if (n != 6 || !cursor_head_good(a + 1)) return false;
         *pixels = a[4] * a[5];

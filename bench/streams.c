@@ -24,7 +24,7 @@ static void put_hostile_command(uint32_t *ring, uint32_t first, uint32_t *at, ui
     static const uint32_t numbers[] = {UPDATE, FILL, COPY, ROP_FILL, ROP_COPY, CURSOR, UPDATE_VERBOSE, FENCE, ESCAPE};
     uint32_t number = rand() % 200 == 0 ? random_number(40) : numbers[rand() % 9], a[8], n = 0;
     uint32_t data = 0; // words after the arguments
-    if (number == FILL || number == ROP_FILL || number == FENCE) a[n++] = random_word();
+    if (number == FILL || number == ROP_FILL || number == FENCE) a[n++] = rand() % 100 == 0 ? 0 : random_word();
     if (number == COPY || number == ROP_COPY) a[n++] = random_number(width), a[n++] = random_number(rows);
     if (number <= ROP_COPY || number == UPDATE_VERBOSE) {
         a[n++] = random_number(width), a[n++] = random_number(rows), a[n++] = random_number(width), a[n++] = random_number(rows);
@@ -121,7 +121,7 @@ static uint32_t mode_height(enum kind kind) { return kind == SCROLL ? STRIP_TOP 
 // Drawn places reach over the right and the lower edge now and then.
 static void put_command(enum kind kind, uint32_t *at) {
     static const uint32_t command[] = {SVGA_CMD_FENCE, SVGA_CMD_RECT_FILL, SVGA_CMD_RECT_FILL, SVGA_CMD_UPDATE, SVGA_CMD_RECT_COPY};
-    uint32_t side = kind == FILLS_1 ? 1 : SIDE, colour = random_word();
+    uint32_t side = kind == FILLS_1 ? 1 : SIDE, colour = random_word() | 1; // FENCE 0 is a fault
     uint32_t to[4] = {(uint32_t)rand() % WIDTH, (uint32_t)rand() % HEIGHT, side, side};
     uint32_t from[4] = {(uint32_t)rand() % WIDTH, (uint32_t)rand() % HEIGHT, side, side};
     struct job *j = &jobs[job_count++];

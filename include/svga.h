@@ -78,7 +78,7 @@ extern "C" {
 
 /* svga_run: a fault. What came before it is done; nothing of its command is. It stands until CONFIG_DONE 1 is accepted. */
 #define SVGA_ANSWER_NOT_OFFERED 10  /* a command number that is not offered */
-#define SVGA_ANSWER_BAD_OPERAND 11  /* a bad cursor size or hotspot, or a raster operation above 15 */
+#define SVGA_ANSWER_BAD_OPERAND 11  /* a bad cursor size or hotspot, a raster operation above 15, or FENCE 0 */
 #define SVGA_ANSWER_TOO_LONG 12     /* a command longer than the ring can hold */
 #define SVGA_ANSWER_BAD_NEXT_CMD 13 /* NEXT_CMD is no multiple of 4, or outside the ring */
 
@@ -182,7 +182,7 @@ extern "C" {
 #define SVGA_CMD_RECT_ROP_COPY 14       /* sx sy dx dy w h rop */
 #define SVGA_CMD_DEFINE_ALPHA_CURSOR 22 /* id hotx hoty w h, then w * h pixels 0xAARRGGBB, row by row */
 #define SVGA_CMD_UPDATE_VERBOSE 25      /* x y w h reason: as UPDATE */
-#define SVGA_CMD_FENCE 30               /* number: the last one is what svga_fence gives, and SVGA_FIFO_FENCE */
+#define SVGA_CMD_FENCE 30               /* number, not 0: the last one is what svga_fence gives, and SVGA_FIFO_FENCE */
 #define SVGA_CMD_ESCAPE 33              /* namespace, size in bytes, then the data in whole words: no effect */
 
 /* Raster operations, as X numbers them: s is the colour or the pixel copied, d the pixel it falls on. */

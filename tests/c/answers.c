@@ -165,6 +165,13 @@ static void faults(void) {
     IS(run(9), both(SVGA_ANSWER_BAD_OPERAND, 0));
     reset_ring(SVGA_RING_START_MIN, SVGA_RING_START_MIN);
     IS(put(SVGA_REG_CONFIG_DONE, 1), SVGA_ANSWER_TAKEN);
+    APPEND(SVGA_CMD_FENCE, 1, SVGA_CMD_FENCE);
+    IS(run(9), both(SVGA_ANSWER_WAITING, 1));
+    APPEND(0);
+    IS(run(9), both(SVGA_ANSWER_BAD_OPERAND, 0));
+    IS(svga_fence(device, SVGA_DEVICE_WORDS), both(SVGA_ANSWER_TAKEN, 1));
+    reset_ring(SVGA_RING_START_MIN, SVGA_RING_START_MIN);
+    IS(put(SVGA_REG_CONFIG_DONE, 1), SVGA_ANSWER_TAKEN);
     APPEND(SVGA_CMD_FENCE, 1, SVGA_CMD_ESCAPE, 0, 10225);
     IS(run(9), both(SVGA_ANSWER_TOO_LONG, 1));
     reset_ring(SVGA_RING_START_MIN, SVGA_RING_START_MIN);
@@ -199,7 +206,7 @@ static void fences(void) {
     POSTED(24, 24 + SIZE - 4, 24, 10, 10); // .. here the FENCE's number, which the guest has appended
     POSTED(28, MIDDLE, 28, 7, 7);
     POSTED(32, MIDDLE, 32, UINT32_MAX, UINT32_MAX);
-    POSTED(28, 28, 28, 0, 0);
+    POSTED(28, 28, 28, 1, 1);
     POSTED(28, 28 + SIZE - 4, 28, 8, 8); // over the ring's end, and up to it
     POSTED(28, 28 + SIZE - 8, 28, 9, 9);
     POSTED(28, MIDDLE, 16, 7, 7); // the accepted MIN decides
@@ -318,6 +325,7 @@ static void appending_commands(void) {
     COMMAND(SVGA_ANSWER_LENT_LENGTH, 4, 1, SVGA_CMD_DEFINE_ALPHA_CURSOR, 1, 0, 0, 2, 2);
     COMMAND(SVGA_ANSWER_NOT_A_COMMAND, 1, 1, SVGA_CMD_FENCE);
     COMMAND(SVGA_ANSWER_NOT_A_COMMAND, 1, 1, SVGA_CMD_FENCE, 1, 2);
+    COMMAND(SVGA_ANSWER_NOT_A_COMMAND, 1, 1, SVGA_CMD_FENCE, 0);
     COMMAND(SVGA_ANSWER_NOT_A_COMMAND, 1, 1, 20, 1);
     COMMAND(SVGA_ANSWER_NOT_A_COMMAND, 1, 1, SVGA_CMD_RECT_ROP_FILL, 5, 0, 0, 1, 1, SVGA_ROP_SET + 1);
     COMMAND(SVGA_ANSWER_NOT_A_COMMAND, 1, 1, SVGA_CMD_DEFINE_ALPHA_CURSOR, 1, 0, 0, SVGA_CURSOR_SIDE_MAX + 1, 1);

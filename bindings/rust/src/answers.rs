@@ -1,6 +1,6 @@
 //! What the calls answer.
 
-use crate::{answer, command_name, limit, reg, register_name};
+use crate::{answer, cmd, command_name, limit, reg, register_name};
 use std::fmt;
 
 /// Where a run ended, and how many commands it consumed.
@@ -79,7 +79,7 @@ impl fmt::Display for End {
 pub enum Fault {
     /// A command number that is not offered.
     NotOffered,
-    /// A bad cursor size or hotspot, or a raster operation above 15.
+    /// A bad cursor size or hotspot, a raster operation above 15, or a fence of 0.
     BadOperand,
     /// A command longer than the ring can hold.
     TooLong,
@@ -113,7 +113,7 @@ impl fmt::Display for Fault {
     fn fmt(&self, f: &mut fmt::Formatter<'_>) -> fmt::Result {
         f.write_str(match self {
             Fault::NotOffered => "the command is not offered",
-            Fault::BadOperand => "a cursor of bad size or hotspot, or a raster operation above 15",
+            Fault::BadOperand => "a cursor of bad size or hotspot, a raster operation above 15, or a fence of 0",
             Fault::TooLong => "the command is longer than the ring can hold",
             Fault::BadNextCmd => "NEXT_CMD is no multiple of 4, or outside the ring",
         })
@@ -186,6 +186,8 @@ pub enum Flaw {
         /// The operation.
         rop: u32,
     },
+    /// A fence of 0, which drivers take for none.
+    FenceZero,
     /// A cursor whose sides are not 1 to 64, or whose hotspot lies outside.
     Cursor {
         /// The columns.
@@ -217,6 +219,7 @@ impl fmt::Display for Flaw {
                 write!(f, "{} has {wanted} words, its number among them, and {given} are given", Numbered(number))
             }
             Flaw::Operation { number, rop } => write!(f, "{} does not take raster operation {rop}: 0 to 15", Numbered(number)),
+            Flaw::FenceZero => write!(f, "{} does not take 0: it stands for no fence", Numbered(cmd::FENCE)),
             Flaw::Cursor { w, h, hotx, hoty } => {
                 write!(
                     f,

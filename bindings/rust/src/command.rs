@@ -86,7 +86,7 @@ pub enum Command<'a> {
         /// A number with no effect.
         reason: u32,
     },
-    /// Stores a number that the host can ask for, [`crate::Device::fence`], and that a guest finds in its ring memory where the ring
+    /// Stores a number, not 0, that the host can ask for, [`crate::Device::fence`], and that a guest finds in its ring memory where the ring
     /// begins late enough: [`crate::ring::posted_fence`].
     Fence(u32),
     /// Data with no effect.
@@ -179,6 +179,7 @@ pub(crate) fn flaw(head: &[u32], carries: usize) -> Option<Flaw> {
     match *head {
         _ if head.len() != wanted => return Some(Flaw::Words { number, given: head.len(), wanted }),
         [cmd::RECT_ROP_FILL | cmd::RECT_ROP_COPY, .., rop] if rop > rop::SET => return Some(Flaw::Operation { number, rop }),
+        [cmd::FENCE, 0] => return Some(Flaw::FenceZero),
         [cmd::DEFINE_ALPHA_CURSOR, _, hotx, hoty, w, h] if !side.contains(&w) || !side.contains(&h) || hotx >= w || hoty >= h => {
             return Some(Flaw::Cursor { w, h, hotx, hoty });
         }

@@ -66,7 +66,7 @@ numbers! {
     SPENT = 2;
     /// Run, fault: a command number that is not offered.
     NOT_OFFERED = 10;
-    /// Run, fault: a bad cursor size or hotspot, or a raster operation above 15.
+    /// Run, fault: a bad cursor size or hotspot, a raster operation above 15, or a fence of 0.
     BAD_OPERAND = 11;
     /// Run, fault: a command longer than the ring can hold.
     TOO_LONG = 12;
@@ -237,7 +237,7 @@ numbers! {
     DEFINE_ALPHA_CURSOR = 22;
     /// x y w h reason.
     UPDATE_VERBOSE = 25;
-    /// number; also written to ring word [`crate::fifo::FENCE`] where fences are posted.
+    /// number, not 0; also written to ring word [`crate::fifo::FENCE`] where fences are posted.
     FENCE = 30;
     /// namespace, size in bytes, then the data in whole words.
     ESCAPE = 33;

@@ -390,6 +390,7 @@ fn refusals_of_a_command_come_in_order() {
         (&[0], Flaw::Number { number: 0 }),
         (&[cmd::FENCE], Flaw::Words { number: cmd::FENCE, given: 1, wanted: 2 }),
         (&[cmd::FENCE, 1, 2], Flaw::Words { number: cmd::FENCE, given: 3, wanted: 2 }),
+        (&[cmd::FENCE, 0], Flaw::FenceZero),
         (&[cmd::RECT_ROP_FILL, 1, 0, 0, 1, 1, 16], Flaw::Operation { number: cmd::RECT_ROP_FILL, rop: 16 }),
         (&[cmd::RECT_ROP_COPY, 0, 0, 0, 0, 1, 1, u32::MAX], Flaw::Operation { number: cmd::RECT_ROP_COPY, rop: u32::MAX }),
         (&[cmd::DEFINE_ALPHA_CURSOR, 1, 0, 0, 65, 1], Flaw::Cursor { w: 65, h: 1, hotx: 0, hoty: 0 }),
@@ -632,13 +633,25 @@ fn a_fence_is_posted_where_the_ring_begins_at_28_or_later() {
         assert!(adapter.device().posts_fences());
         assert_eq!(adapter.posted_fence(), Some(0));
         // in a row of words, over the ring's end, and up to it
-        for (fence, place) in [(7, min + 400), (0x8000_0001, end - 4), (0, end - 8)] {
+        for (fence, place) in [(7, min + 400), (0x8000_0001, end - 4), (1, end - 8)] {
             accept_at(&mut adapter, place);
             adapter.submit(&Command::Fence(fence)).unwrap();
             assert_eq!(adapter.run(9), run_of(End::Drained, 1));
             assert_eq!((adapter.posted_fence(), adapter.fence()), (Some(fence), fence), "MIN {min}, STOP {place}");
         }
     }
+}
+
+#[test]
+fn a_fence_of_0_is_a_fault_once_both_its_words_are_there() {
+    let mut adapter = started_at(28);
+    assert_eq!(adapter.submit(&Command::Fence(0)), Err(Error::NotACommand(Flaw::FenceZero)));
+    append_all(&mut adapter, &[cmd::FENCE, 7, cmd::FENCE]);
+    assert_eq!(adapter.run(9), run_of(End::Waiting, 1));
+    append_all(&mut adapter, &[0]);
+    assert_eq!(adapter.run(0), run_of(End::Spent, 0));
+    assert_eq!(adapter.run(9), run_of(End::Fault(Fault::BadOperand), 0));
+    assert_eq!((adapter.posted_fence(), adapter.fence()), (Some(7), 7));
 }
 
 #[test]

@@ -13,7 +13,7 @@ fn runs() {
     let faults = [Fault::NotOffered, Fault::BadOperand, Fault::TooLong, Fault::BadNextCmd];
     assert_eq!(faults.map(Fault::number), [10, 11, 12, 13]);
     assert_eq!([End::Drained, End::Waiting, End::Spent, End::Fault(Fault::TooLong)].map(End::number), [0, 1, 2, 12]);
-    assert_eq!(Fault::BadOperand.to_string(), "a cursor of bad size or hotspot, or a raster operation above 15");
+    assert_eq!(Fault::BadOperand.to_string(), "a cursor of bad size or hotspot, a raster operation above 15, or a fence of 0");
     assert_eq!(Fault::TooLong.to_string(), "the command is longer than the ring can hold");
     assert_eq!(Fault::BadNextCmd.to_string(), "NEXT_CMD is no multiple of 4, or outside the ring");
 }
@@ -64,6 +64,7 @@ fn a_refused_command_says_what_is_wrong() {
         (&[][..], "a command without a word: the first is its number"),
         (&[20, 1], "there is no command 20"),
         (&[cmd::RECT_FILL, 9, 0, 0, 1], "command 2 (RECT_FILL) has 6 words, its number among them, and 5 are given"),
+        (&[cmd::FENCE, 0], "command 30 (FENCE) does not take 0: it stands for no fence"),
         (&[cmd::RECT_ROP_FILL, 9, 0, 0, 1, 1, 16], "command 13 (RECT_ROP_FILL) does not take raster operation 16: 0 to 15"),
         (
             &[cmd::DEFINE_ALPHA_CURSOR, 1, 0, 3, 65, 3],

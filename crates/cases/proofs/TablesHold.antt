@@ -10,7 +10,7 @@ use Rattle.command.specs.Commands.{entry, kindOf, commands}
 use Rattle.device.specs.Device.{sizesGood, modeGood, conditionGood, definedGood, wellFormed}
 use Rattle.register_read.specs.Registers.{writableValue, readOnlyValue, readBy, readOf}
 use Rattle.cases.specs.Cases.{AllEqual}
-use Rattle.cases.specs.Tables.{Reads, NotThere, freshDevice, freshReads, absent, setDevice, setReads, commandTable, CommandsHold, operations, foreignNumbers, NotOfferedAny, answerNumbers}
+use Rattle.cases.specs.Tables.{Reads, NotThere, freshDevice, freshReads, absent, setDevice, setReads, commandTable, CommandsHold, operations, fences, foreignNumbers, NotOfferedAny, answerNumbers}
 
 pub fresh-reads : Reads freshDevice freshReads
 unfolding freshReads sizesGood modeGood conditionGood definedGood wellFormed registerOf numbers writableValue readOnlyValue readBy readOf
@@ -31,6 +31,10 @@ commands-hold = record { names = refl; offered = refl; heads = refl; lengths = r
 pub operations-hold : AllEqual operations
 unfolding operations entry kindOf commands unless turnOf runs
 operations-hold = (refl, (refl, tt))
+
+pub fences-hold : AllEqual fences
+unfolding fences entry kindOf commands unless turnOf runs
+fences-hold = (refl, (refl, (refl, tt)))
 
 pub not-offered : NotOfferedAny foreignNumbers
 unfolding entry kindOf commands unless turnOf runs

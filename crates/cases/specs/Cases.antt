@@ -61,12 +61,16 @@ zeros n = replicate n 0
 abbrev pub size : List ℕ → ℕ
 size head = sizeBy (kindIn head) head
 
--- What a run of budget 1 answers where these words wait in the smallest ring: 2 where it executes a command, 1 where it waits for the rest of it.
-abbrev pub answer : List ℕ → ℕ
-answer waiting =
+-- What a run of this budget answers where these words wait in the smallest ring.
+abbrev pub answerWith : ℕ → List ℕ → ℕ
+answerWith budget waiting =
     answerNumber
-    (runs (turnOf smallest (table (scene (record { width = 4; height = 1; rows = 1 }) [] false))) 1
+    (runs (turnOf smallest (table (scene (record { width = 4; height = 1; rows = 1 }) [] false))) budget
     (record { words = waiting; machine = machine (record { fence = 0; defined = Undefined }) screen [] 0 }) .answer)
+
+-- And one of budget 1: 2 where it executes a command, 1 where it waits for the rest of it.
+abbrev pub answer : List ℕ → ℕ
+answer waiting = answerWith 1 waiting
 
 -- The corner of case 9, X 4294967295 and hotspot 0.
 abbrev pub corner : ℤ

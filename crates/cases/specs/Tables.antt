@@ -33,7 +33,7 @@ use Rattle.device_run.specs.declared.RunAnswer.the-variants as Run
 use Rattle.device_run.specs.Run.{runNumber}
 use Rattle.adapter.specs.declared.PictureAnswer.the-variants as Picture
 use Rattle.adapter.specs.Picture.{pictureNumber}
-use Rattle.cases.specs.Cases.{Case, _is_, rect, zeros, answer}
+use Rattle.cases.specs.Cases.{Case, _is_, rect, zeros, answerWith, answer}
 
 -- ---- registers
 
@@ -233,7 +233,7 @@ commandTable =
       length = 6;
       does = A.Update (rect 101 102 103 104);
     }
-    -- "30 FENCE | 2 | number"
+    -- "30 FENCE | 2 | number"; `fences` has 0
     ∷ record { number = 30; name = Fence; head = 2; example = 30 ∷ 101 ∷ []; length = 2; does = A.Fence 101 }
     -- "33 ESCAPE | head 3, then ceil(size/4) | namespace, size in bytes, data (no effect)": 5 bytes
     ∷ record { number = 33; name = Escape; head = 3; example = 33 ∷ 101 ∷ 5 ∷ 0 ∷ 0 ∷ []; length = 5; does = A.Nothing }
@@ -258,6 +258,16 @@ unfoldable pub operations : List Case
 operations =
     (map (λ (rop : ℕ). answer (13 ∷ 101 ∷ 102 ∷ 103 ∷ 104 ∷ 105 ∷ rop ∷ [])) (15 ∷ 16 ∷ 4294967295 ∷ []) is 2 ∷ 11 ∷ 11 ∷ [])
     ∷ (map (λ (rop : ℕ). answer (14 ∷ 101 ∷ 102 ∷ 103 ∷ 104 ∷ 105 ∷ 106 ∷ rop ∷ [])) (15 ∷ 16 ∷ 4294967295 ∷ []) is 2 ∷ 11 ∷ 11 ∷ [])
+    ∷ []
+
+-- Document 02, P6: "FENCE 0 becomes a fault; case 13 changes with it." That case was "Fence 0 is stored." Now "11 for FENCE 0, judged once both words are
+-- there": 30 alone waits (1), with 0 behind it faults, with 1 or the last number of all is executed; what is executed before it stays so. Without a budget
+-- none is looked at: 2.
+unfoldable pub fences : List Case
+fences =
+    (map answer ((30 ∷ []) ∷ (30 ∷ 0 ∷ []) ∷ (30 ∷ 1 ∷ []) ∷ (30 ∷ 4294967295 ∷ []) ∷ (30 ∷ 7 ∷ 30 ∷ 0 ∷ []) ∷ []) is 1 ∷ 11 ∷ 2 ∷ 2 ∷ 2 ∷ [])
+    ∷ (map (answerWith 0) ((30 ∷ []) ∷ (30 ∷ 0 ∷ []) ∷ []) is 2 ∷ 2 ∷ [])
+    ∷ (map (answerWith 2) ((30 ∷ 7 ∷ 30 ∷ []) ∷ (30 ∷ 7 ∷ 30 ∷ 0 ∷ []) ∷ (30 ∷ 0 ∷ 30 ∷ 7 ∷ []) ∷ []) is 1 ∷ 11 ∷ 11 ∷ [])
     ∷ []
 
 -- Numbers between and beyond those of the table, with "the commands that 000 says should not be used (20, 21)".

@@ -40,7 +40,7 @@ alike DefineAlphaCursor w v b = record {
   action = rw (b 1 (omega arith) (omega arith), b 2 (omega arith) (omega arith), b 3 (omega arith) (omega arith), b 4 (omega arith) (omega arith), b 5 (omega arith) (omega arith));
 }
 alike UpdateVerbose w v b = record { behind = refl; headGood = refl; good = λ s. refl; action = rw (b 1 (omega arith) (omega arith), b 2 (omega arith) (omega arith), b 3 (omega arith) (omega arith), b 4 (omega arith) (omega arith)) }
-alike Fence w v b = record { behind = refl; headGood = refl; good = λ s. refl; action = rw (b 1 (omega arith) (omega arith)) }
+alike Fence w v b = record { behind = refl; headGood = refl; good = λ s. rw (b 1 (omega arith) (omega arith)); action = rw (b 1 (omega arith) (omega arith)) }
 alike Escape w v b = record { behind = rw (b 2 (omega arith) (omega arith)); headGood = refl; good = λ s. refl; action = refl }
 alike Foreign w v b = record { behind = refl; headGood = refl; good = λ s. refl; action = refl }
 

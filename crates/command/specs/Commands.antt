@@ -1,6 +1,6 @@
 -- Document 01's table of commands, row by row: "One command out of the ring".
 use Prim.Native.Nat.{ℕ, _+_, _*_, _/_}
-use mathlib.Core.Bool.{Bool, true, false, cond}
+use mathlib.Core.Bool.{Bool, true, false, cond, not}
 use mathlib.Core.List.{List, [], _∷_}
 use lib.Dec.{eqb, leb}
 use lib.ListN.{getD}
@@ -58,17 +58,21 @@ fixed number words action = record {
   action = action;
 }
 
--- "Raster operation above 15: 11.": one whose word i is a raster operation
-abbrev pub operated : ℕ → ℕ → ℕ → (List ℕ → Action) → Entry
-operated number words i action = record {
+-- one of fixed length that is judged once all its words are there
+abbrev pub checked : ℕ → ℕ → (List ℕ → Bool) → (List ℕ → Action) → Entry
+checked number words good action = record {
   number = number;
   offered = true;
   head = words;
   behind = λ w. 0;
   headGood = λ w. true;
-  good = λ s w. leb (getD w i 0) 15;
+  good = λ s w. good w;
   action = action;
 }
+
+-- "Raster operation above 15: 11.": one whose word i is a raster operation
+abbrev pub operated : ℕ → ℕ → ℕ → (List ℕ → Action) → Entry
+operated number words i action = checked number words (λ w. leb (getD w i 0) 15) action
 
 -- one with data behind its head
 abbrev pub followed : ℕ → ℕ → (List ℕ → ℕ) → (List ℕ → Bool) → (List ℕ → Action) → Entry
@@ -82,7 +86,8 @@ followed number words behind good action = record {
   action = action;
 }
 
--- The table. "Cursor: w and h 1 to 64, hotx < w, hoty < h, else 11." A plain fill or copy is operation 3; UPDATE_VERBOSE is "as 1, reason (no effect)";
+-- The table. "Cursor: w and h 1 to 64, hotx < w, hoty < h, else 11." Document 02, P6: "11 for FENCE 0, judged once both words are there, in the place of the
+-- raster check". A plain fill or copy is operation 3; UPDATE_VERBOSE is "as 1, reason (no effect)";
 -- ESCAPE's "data (no effect)". Any other number is not offered: no row, and its one word is never looked at further.
 unfoldable pub entry : Kind → Entry
 entry Update = fixed 1 5 (λ w. A.Update (rectAt w 1))
@@ -92,7 +97,7 @@ entry RectRopFill = operated 13 7 6 (λ w. A.Fill (rectAt w 2) (getD w 1 0) (get
 entry RectRopCopy = operated 14 8 7 (λ w. A.Copy (sourceAt w 1) (rectAt w 3) (getD w 7 0))
 entry DefineAlphaCursor = followed 22 6 (λ w. shapeAt w 1 .w * shapeAt w 1 .h) (λ w. shapeGood (shapeAt w 1)) (λ w. A.Define (shapeAt w 1))
 entry UpdateVerbose = fixed 25 6 (λ w. A.Update (rectAt w 1))
-entry Fence = fixed 30 2 (λ w. A.Fence (getD w 1 0))
+entry Fence = checked 30 2 (λ w. not (eqb (getD w 1 0) 0)) (λ w. A.Fence (getD w 1 0))
 entry Escape = followed 33 3 (λ w. (getD w 2 0 + 3) / 4) (λ w. true) (λ w. A.Nothing)
 entry Foreign = record { number = 0; offered = false; head = 1; behind = λ w. 0; headGood = λ w. true; good = λ s w. true; action = λ w. A.Nothing }
 

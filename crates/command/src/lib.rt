@@ -199,11 +199,15 @@ fn fence_in(row: &[u32]) -> Step
     if row.len() < 2 {
         return Step::Short;
     }
-    Step::Does(Action::Fence(row[1]), 2)
+    let number = row[1];
+    if number == 0 {
+        return Step::Faults(Cause::BadOperand);
+    }
+    Step::Does(Action::Fence(number), 2)
 }
 
 // The one dispatch: what the front of a row of words says. Only the words of the command's own head are read.
-// Rules out: a raster operation judged before all words are there; a foreign number that waits; a plain copy by another operation than 3.
+// Rules out: a raster operation or a fence of 0 judged before all words are there; a foreign number that waits; a plain copy by another operation than 3.
 pub fn step_in(row: &[u32]) -> Step
     ensures { λ r. ⌜ r ≡ stepIn tt (now (row .entry)) ⌝ }
 {

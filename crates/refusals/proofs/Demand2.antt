@@ -7,9 +7,9 @@
 -- Assumes nothing.
 use mathlib.Core.Path.{_≡_, refl, sym, ap, _∙_}
 use mathlib.Core.Bool.{true, false, false≢true, true≢false}
-use mathlib.Core.List.{List}
+use mathlib.Core.List.{List, [], _∷_}
 use mathlib.Core.Option.{none}
-use mathlib.Core.Logic.{_↔_, _⊎_, inl, inr, ⊎-elim, Iff·trans}
+use mathlib.Core.Logic.{_≢_, _↔_, _⊎_, inl, inr, ⊎-elim, Iff·trans}
 use Prim.Native.Nat.{ℕ, _*_, _≤_, _<_}
 use native.Mathlib.Omega.{arith}
 use lib.Dec.{eqb}
@@ -26,7 +26,7 @@ use Rattle.execution.specs.Turns.{runs}
 use Rattle.execution.proofs.QueueLaws.{RunsRight}
 use Rattle.execution.specs.Table.{Laws}
 use Rattle.ring.specs.declared.Ring.{Ring}
-use Rattle.ring.specs.Acceptance.{minOf, maxOf, nextOf, stopOf, usable}
+use Rattle.ring.specs.Acceptance.{minOf, maxOf, nextOf, stopOf, usable, Usable}
 use Rattle.ring.specs.Waiting.{carried, nextGood}
 use Rattle.ring.specs.Append.{movedOn, canAppend, appendOf}
 use Rattle.ring.proofs.AppendLaws.{append-refused}
@@ -48,7 +48,7 @@ use Rattle.adapter.specs.Picture.{pictureOf}
 use Rattle.register_read.specs.Registers.{readBy, readOf}
 use Rattle.register_write.specs.Registers.{written}
 use Rattle.register_write.specs.Rules.{no-register, read-only, bad-value, wrong-length, ring-refused, is-taken}
-use Rattle.writer.specs.Writing.{Command, carriedIn, writeOf}
+use Rattle.writer.specs.Writing.{Command, command, carriedIn, writeOf}
 use Rattle.writer.proofs.Taking.{not-taken, taken-is}
 use Rattle.writer.proofs.Appending.{write-refused}
 use Rattle.device_run.specs.Run.{Lent, RunOutcome, conditionAfter, busyAfter, machineOf, sceneFor, lineOf, turnFor, ran, refusedRun, runBy, runOf}
@@ -65,8 +65,8 @@ use Rattle.refusals.specs.Refusing.{Turn0, Turn10, HeadMissing, HeadBad,
 use Rattle.refusals.proofs.Reasons.{fails, sizes-good, ring-usable, not-usable, picture-lent, lent-as-asked, next-usable, next-unusable, ranged}
 use Rattle.refusals.proofs.Reasons.{end-number, stops-2, verdict-ends, run-stops, run-none, run-unusable, run-straight, fault-after, ring-carries}
 use Rattle.refusals.proofs.Reasons as Reasons
-use Rattle.refusals.proofs.Rules.{write-why, ended-taken, is-lent, not-lent, start, start-fits, start-ended, ran-leaves, ran-posts, ran-waits}
-use Rattle.refusals.proofs.Rules.{leaves-one, leaves-six, by-refusals, run-why, submit-why}
+use Rattle.refusals.proofs.Rules.{write-why, ended-taken, is-lent, not-lent, start, start-fits, start-ended, ran-leaves, ran-posts, ran-never-zero, ran-waits}
+use Rattle.refusals.proofs.Rules.{leaves-one, leaves-six, by-refusals, run-why, submit-why, fence-0-not-taken}
 use Rattle.refusals.proofs.Rules.{turn-why, finds-0, finds-10, finds-1, finds-11, finds-12, finds-command}
 
 not-zero : {a : ℕ} → isRefusal a ≡ true → a ≡ 0 → ⊥
@@ -190,7 +190,7 @@ module _ (d : Device) (l : Lent) (g : Ring) (m : Machine) (w : List ℕ) where
   pub turn-1 : (turnFor d l g m w ≡ ends Waiting) ↔ (HeadMissing w ⊎ WordsMissing (carried (g .min) (g .max)) w)
   turn-1 = (turn-why knownOf does (cap g) m w (ends Waiting), finds-1 knownOf does (cap g) m w)
 
-  -- "Cursor head bad: 11." "Raster operation above 15: 11."
+  -- "Cursor head bad: 11." "Raster operation above 15: 11." Document 02, P6: "11 for FENCE 0"
   pub turn-11 : (turnFor d l g m w ≡ ends (Fault BadOperand)) ↔ (HeadBad w ⊎ OperandBad (knownOf m) (carried (g .min) (g .max)) w)
   turn-11 = (turn-why knownOf does (cap g) m w (ends (Fault BadOperand)), finds-11 knownOf does (cap g) m w)
 
@@ -366,6 +366,19 @@ module _ (d : Device) (l : Lent) (budget : ℕ) where
         (λ good. leaves-six d l g budget low (run-leaves (next-usable g (nextOf (l .ring)) .0 good)))
         (λ bad. ap (λ (k : Lent). getD (k .ring) 6 0) (unusable-same bad .1))
 
+    -- Document 02, P6: "Drivers use 0 for "no fence"", and "FENCE 0 becomes a fault". If a FENCE is among the commands that the run counted, the last fence is
+    -- not 0 then; and a run never brings ring word 6 to 0.
+    pub run-never-zero :
+        ((¬ NoFence (turnFor d l g) (runOf d l budget .count) (lineOf d l g)) → fenceOf (runOf d l budget .device) ≢ 0)
+        × (getD (runOf d l budget .lent .ring) 6 0 ≡ 0 → getD (l .ring) 6 0 ≡ 0)
+    run-never-zero =
+        cases (nextGood g (nextOf (l .ring)))
+        (λ good. rw (run-starts, straight-so (next-usable g (nextOf (l .ring)) .0 good) .0) (ran-never-zero d l g budget fits))
+        (λ bad.
+        let x = unusable-same bad in
+        let uncounted = x .0 in
+        (λ with-one. absurd (with-one (λ j k. absurd (omega arith))), λ z. sym (ap (λ (k : Lent). getD (k .ring) 6 0) (x .1)) ∙ z))
+
     -- where NEXT_CMD is unusable it answers none of 0, 1, 10, 11 and 12,
     ends-usable : (e : End) → endNumber e < 13 → runOf d l budget .answer ≡ endNumber e → NextUsable g (nextOf (l .ring))
     ends-usable e small q =
@@ -402,7 +415,7 @@ module _ (d : Device) (l : Lent) (budget : ℕ) where
     pub run-10 : (runOf d l budget .answer ≡ 10) ↔ (Reaches d l g budget × Turn10 (stopsAt d l g .words))
     run-10 = run-ends (Fault NotOffered) (omega arith) (turn-10 d l g _ _)
 
-    -- "Cursor head bad: 11." "Raster operation above 15: 11."
+    -- "Cursor head bad: 11." "Raster operation above 15: 11." Document 02, P6: "11 for FENCE 0"
     pub run-11 : (runOf d l budget .answer ≡ 11)
         ↔ (Reaches d l g budget
         × (HeadBad (stopsAt d l g .words) ⊎ OperandBad (knownOf (stopsAt d l g .machine)) (carried (g .min) (g .max)) (stopsAt d l g .words)))
@@ -534,3 +547,7 @@ module _ (ring : List ℕ) (c : Command) where
 -- The usable offscreen rectangle: `adapter::offscreen` equals `offscreen/Offscreen.offscreenOf`, four edges.
 -- The last fence: `adapter::fence` equals `adapter/Fence.fenceOf`.
 -- Whether a fence has passed: `adapter::fence_passed` equals `adapter/Fence.fencePassed`, of the last fence and the number asked for.
+
+-- Document 02, P6: "The writer of P2 refuses it too", a FENCE of 0, whatever is lent with it
+pub submit-fence-0 : (ring pixels bytes : List ℕ) → Usable ring → writeOf ring (command (30 ∷ 0 ∷ []) pixels bytes) .answer ≡ 41
+submit-fence-0 ring pixels bytes u = submit-41 ring (command (30 ∷ 0 ∷ []) pixels bytes) .1 (u, fence-0-not-taken ring u)

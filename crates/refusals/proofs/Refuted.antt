@@ -27,7 +27,7 @@ use Rattle.refusals.specs.Refusing.{isRefusal, Sizes, Make34, Ranged, Wr
 use Rattle.refusals.specs.Refusing.{RunLent, Run20, Run22, Run21, Run24, Run23, Starts, NextUsable, leftBy, Reaches, RunLeaves, Append1}
 use Rattle.refusals.specs.Refusing.{Submit33, Submit41, Submit20, Submit40, Submit0}
 use Rattle.refusals.specs.Refusing.{Turn0, Turn10, HeadMissing, HeadBad, Turn12, WordsMissing, OperandBad, Executes}
-use Rattle.refusals.proofs.Rules.{leaves-six}
+use Rattle.refusals.proofs.Rules.{leaves-six, fence-0-not-taken}
 
 -- ---- answers: "Answers 20 to 34 change nothing"
 
@@ -106,13 +106,20 @@ append-1-not-room ring u room x = ⊎-elim (λ n. n u) room x
 pub submit-33-not-usable : (ring : List ℕ) (c : Command) → Usable ring → ¬ Submit33 ring c
 submit-33-not-usable ring c u n = n u
 
--- every usable ring carries a FENCE
-pub submit-41-not-fence : (ring : List ℕ) (number : ℕ) → ¬ Submit41 ring (command (30 ∷ number ∷ []) [] [])
+-- every usable ring carries a FENCE, and one of 1 is taken
+pub submit-41-not-fence-1 : (ring : List ℕ) → ¬ Submit41 ring (command (30 ∷ 1 ∷ []) [] [])
 unfolding isCommand entry kindOf
-submit-41-not-fence ring number x =
+submit-41-not-fence-1 ring x =
     let u = x .0 in
     let fits : 2 ≤ carriedIn ring = omega arith in
-    taken-is (carriedIn ring) (30 ∷ number ∷ []) .0 (rw (le-leb 2 (carriedIn ring) fits)) (x .1)
+    taken-is (carriedIn ring) (30 ∷ 1 ∷ []) .0 (rw (le-leb 2 (carriedIn ring) fits)) (x .1)
+
+-- one of 0 is 41, whatever is lent with it
+pub submit-20-not-fence-0 : (ring pixels bytes : List ℕ) → ¬ Submit20 ring (command (30 ∷ 0 ∷ []) pixels bytes)
+submit-20-not-fence-0 ring pixels bytes x = x .1 (fence-0-not-taken ring (x .0))
+
+pub submit-0-not-fence-0 : (ring pixels bytes : List ℕ) → ¬ Submit0 ring (command (30 ∷ 0 ∷ []) pixels bytes)
+submit-0-not-fence-0 ring pixels bytes x = x .1 (fence-0-not-taken ring (x .0))
 
 -- a cursor of 65 columns is 41, whatever pixels are lent with it
 pub submit-20-not-65-wide : (ring : List ℕ) (id : ℕ) (pixels : List ℕ) → ¬ Submit20 ring (command (22 ∷ id ∷ 0 ∷ 0 ∷ 65 ∷ 1 ∷ []) pixels [])
@@ -238,6 +245,15 @@ words-missing-not-empty-escape cap namespace w t = omega (arith, t .3)
 pub operand-bad-not-plain-fill : (cap : ℕ) (w : List ℕ) → ¬ OperandBad tt cap (2 ∷ w)
 unfolding entry kindOf
 operand-bad-not-plain-fill cap w t = true≢false (t .1)
+
+-- Document 02, P6: "FENCE 0 becomes a fault", and no other number
+pub operand-bad-not-fence-1 : (cap : ℕ) (w : List ℕ) → ¬ OperandBad tt cap (30 ∷ 1 ∷ w)
+unfolding entry kindOf
+operand-bad-not-fence-1 cap w t = true≢false (t .1)
+
+pub executes-not-fence-0 : (cap : ℕ) (w : List ℕ) → ¬ Executes tt cap (30 ∷ 0 ∷ w)
+unfolding entry kindOf
+executes-not-fence-0 cap w t = false≢true (t .1)
 
 -- "Raster operation above 15: 11."
 pub executes-not-operation-16 : (cap colour x y width height : ℕ) (w : List ℕ) → ¬ Executes tt cap (13 ∷ colour ∷ x ∷ y ∷ width ∷ height ∷ 16 ∷ w)

@@ -2,7 +2,7 @@
 -- Assumes nothing.
 use mathlib.Core.Path.{_≡_, refl, sym, ap, subst, _∙_}
 use mathlib.Core.Bool.{true, false, cond}
-use mathlib.Core.List.{List}
+use mathlib.Core.List.{List, [], _∷_}
 use mathlib.Core.Logic.{_≢_, _↔_, _⊎_, inl, inr, ⊎-elim}
 use Prim.Native.Nat.{ℕ, _-_, _*_, _/_, _≤_, _<_, min}
 use native.Mathlib.Omega.{arith}
@@ -20,18 +20,18 @@ use Rattle.execution.specs.Turns.{LineRun, runs}
 use Rattle.execution.proofs.Laws.{Goes, goes-steps, goes-straight}
 use Rattle.execution.proofs.QueueLaws.{RunsRight}
 use Rattle.ring.specs.declared.Ring.{Ring}
-use Rattle.ring.specs.Acceptance.{nextOf}
+use Rattle.ring.specs.Acceptance.{nextOf, usable, Usable}
 use Rattle.ring.specs.Waiting.{ahead, between, waiting, carried, nextGood}
 use Rattle.ring.proofs.Laws.{placed-when}
 use Rattle.ring.proofs.WaitingLaws.{length-waiting, words-left, words-left-written}
 use Rattle.command.specs.declared.Action.{Action}
-use Rattle.command.specs.Commands.{Known, entry, sizeBy, kindIn, commands}
+use Rattle.command.specs.Commands.{Known, entry, sizeBy, kindIn, kindOf, commands}
 use Rattle.command.proofs.Rules.{Ruled, foreign, no-head, bad-head, long, no-rest, bad, well, ruled, by-rule, turn-none}
 use Rattle.effect.specs.Effects.{Machine}
 use Rattle.run.specs.Run.{RingOutcome, machine, postsIn, stamped, posting, postedIn, left, fitting, runIn}
 use Rattle.run.specs.Turns.{Clear}
 use Rattle.run.proofs.Posting.{clear-min, posting-waits, written-other}
-use Rattle.run.proofs.Fences.{left-posted, Tells, left-tells}
+use Rattle.run.proofs.Fences.{left-posted, Tells, left-tells, NeverZero, left-never-zero}
 use Rattle.run.proofs.RunLaws.{fitting-placed, can-view}
 use Rattle.device.specs.declared.Condition.{Condition}
 use Rattle.device.specs.declared.Condition.the-variants.{Idle, Running, Faulted}
@@ -40,8 +40,9 @@ use Rattle.device.specs.Device.{pixelsOf, widthOf, heightOf, enabledOf, configu
 use Rattle.register_write.specs.Registers.{written}
 use Rattle.device_run.specs.Run.{Lent, RunOutcome, lentGood, conditionAfter, busyAfter, machineOf, sceneFor, lineOf, turnFor, ran, refusedRun, runBy, runOf}
 use Rattle.writer.specs.declared.WriterAnswer.the-variants.{Taken, LentLength, RingRefused, NoRoom, NotACommand}
-use Rattle.writer.specs.Writing.{Command, Written, commandWords, carriedIn, appendAll, writeOf}
+use Rattle.writer.specs.Writing.{Command, Written, commandWords, isCommand, carriedIn, appendAll, writeOf}
 use Rattle.writer.specs.Writing as Writer
+use Rattle.writer.specs.Reading.{NotTaken}
 use Rattle.writer.proofs.Taking.{not-taken, taken-is}
 use Rattle.writer.proofs.Appending.{by-tests}
 use Rattle.register_write.specs.Rules.{Why, no-register, read-only, bad-value, wrong-length, ring-refused, is-taken}
@@ -157,6 +158,10 @@ module _ (d : Device) (l : Lent) where
     -- what it posts, by the commands that it executed
     pub ran-posts : Tells (sceneFor d l g) (carried (g .min) (g .max)) g (l .ring) (lineOf d l g) (left g (l .ring) (lineOf d l g .words) turns)
     ran-posts = left-tells (sceneFor d l g) (carried (g .min) (g .max)) g (l .ring) budget (lineOf d l g) refl refl clear
+
+    -- no fence that it leaves is 0
+    pub ran-never-zero : NeverZero (sceneFor d l g) (carried (g .min) (g .max)) (l .ring) (lineOf d l g) (left g (l .ring) (lineOf d l g .words) turns)
+    ran-never-zero = left-never-zero (sceneFor d l g) (carried (g .min) (g .max)) g (l .ring) budget (lineOf d l g) refl refl clear
 
     -- and the words that wait then are those left
     pub ran-waits : {cap : ℕ} → Laws cap (turnFor d l g) → nextGood g (nextOf (l .ring)) ≡ true
@@ -386,3 +391,10 @@ module _ (ring : List ℕ) (c : Command) where
 
   pub submit-why : (a : ℕ) → writeOf ring c .answer ≡ a → SubmitRule a
   submit-why a e = subst SubmitRule e (by-submits (λ (o : Written). SubmitRule (o .answer)) (λ x. x) (λ x. x) (λ x. x) (λ x. x) (λ x. x))
+
+-- no ring's writer takes a FENCE of 0
+pub fence-0-not-taken : (ring : List ℕ) → Usable ring → NotTaken (carriedIn ring) (30 ∷ 0 ∷ [])
+unfolding isCommand entry kindOf
+fence-0-not-taken ring u =
+    let fits : 2 ≤ carriedIn ring = omega arith in
+    not-taken (carriedIn ring) (30 ∷ 0 ∷ []) .0 (rw (le-leb 2 (carriedIn ring) fits))

@@ -230,7 +230,8 @@ abbrev pub WordsThere : ℕ → List ℕ → Type 0
 WordsThere cap w =
     HeadThere w × (entry (kindIn w) .headGood w ≡ true) × (sizeBy (kindIn w) w ≤ cap) × (sizeBy (kindIn w) w ≤ length w)
 
--- "Raster operation above 15: 11." `known` is what the checks see of the machine.
+-- "Raster operation above 15: 11." Document 02, P6: "11 for FENCE 0, judged once both words are there, in the place of the raster check". `known` is what the
+-- checks see of the machine.
 abbrev pub OperandBad : Known → ℕ → List ℕ → Type 0
 OperandBad known cap w = WordsThere cap w × (entry (kindIn w) .good known w ≡ false)
 

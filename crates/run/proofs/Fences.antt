@@ -1,7 +1,7 @@
--- Over a whole run: which fence stands in ring word 6, and that the ring memory has what straight execution posted.
+-- Over a whole run: which fence stands in ring word 6, that the ring memory has what straight execution posted, and that no fence is 0.
 -- Assumes nothing.
-use mathlib.Core.Path.{_≡_, refl, sym, ap, _∙_}
-use mathlib.Core.Bool.{Bool, true, false, true≢false}
+use mathlib.Core.Path.{_≡_, refl, sym, ap, _∙_, subst₂}
+use mathlib.Core.Bool.{Bool, true, false, not, true≢false, false≢true}
 use mathlib.Core.Logic.{_≢_, _⊎_, inl, inr, ⊎-elim}
 use mathlib.Core.Option.{Option, none, some}
 use mathlib.Core.List.{List, [], _∷_}
@@ -10,7 +10,7 @@ use native.Mathlib.Omega.{arith}
 use lib.Dec.{eqb}
 use lib.ListN.{length, getD, take}
 use lib.Seq.{getD-set-other}
-use borrow.Author.Tests.{eqb-true, le-leb}
+use borrow.Author.Tests.{eqb-true, eq-eqb, le-leb}
 use borrow.Table.Steps.{cases}
 use Rattle.execution.specs.Straight.{Line, Turn, ends, exec, beyond, next, straight}
 use Rattle.execution.specs.Table.{turnOf}
@@ -98,6 +98,11 @@ fence-posts : (k : Kind) → k ≡ Fence → (w : List ℕ) (posted fence : ℕ)
 unfolding postedAfter fenceAfter entry
 fence-posts k e w posted fence = rw e
 
+-- one that passes its check leaves another number than 0
+fence-some : (w : List ℕ) (fence : ℕ) → entry Fence .good tt w ≡ true → fenceAfter (entry Fence .action w) fence ≢ 0
+unfolding fenceAfter entry
+fence-some w fence good z = false≢true (sym (ap not (eq-eqb (getD w 1 0) 0 z)) ∙ good)
+
 -- another leaves both what is posted and the fence
 other-posts : (k : Kind) → k ≢ Fence → (posts : Bool) (w : List ℕ) (posted fence : ℕ)
     → (postedAfter posts (entry k .action w) posted ≡ posted) × (fenceAfter (entry k .action w) fence ≡ fence)
@@ -132,7 +137,8 @@ module _ (s : Scene) (cap : ℕ) where
   act w = entry (kindIn w) .action w
 
   abbrev Marks-by : List ℕ → Machine → Machine → Type 0
-  Marks-by w m u = (u .posted ≡ postedAfter (s .posts) (act w) (m .posted)) × (u .marks .fence ≡ fenceAfter (act w) (m .marks .fence))
+  Marks-by w m u =
+      (u .posted ≡ postedAfter (s .posts) (act w) (m .posted)) × (u .marks .fence ≡ fenceAfter (act w) (m .marks .fence)) × (entry (kindIn w) .good tt w ≡ true)
 
   by-found : (m u : Machine) (w : List ℕ) (n : ℕ) (f : Turn (Option Action)) → 1 ≤ length w → findsIn tt cap w ≡ f → onMachine (done s) m w f ≡ exec n u
       → Marks-by w m u
@@ -141,10 +147,11 @@ module _ (s : Scene) (cap : ℕ) where
   by-found m u w n (exec k none) l q r = absurd (true≢false cc)
   by-found m u w n (exec k (some a)) l q r =
       let same : done s a (take k w) m ≡ u = cc in
-      let is : act w ≡ a = found cap w a k l q .action in
-      rw (is, ← same) (refl, refl)
+      let f = found cap w a k l q in
+      let is : act w ≡ a = f .action in
+      rw (is, ← same) (refl, refl, f .good)
 
-  -- what an executed command posts, and the fence that it leaves
+  -- what an executed command posts, and the fence that it leaves; it passed its check
   exec-marks : (m u : Machine) (w : List ℕ) (n : ℕ) → turn m w ≡ exec n u → Marks-by w m u
   unfolding turnOf
   exec-marks m u [] n q = absurd (true≢false cc)
@@ -171,34 +178,52 @@ module _ (s : Scene) (cap : ℕ) where
   no-fence-on a n k u r first rest zero l = first
   no-fence-on a n k u r first rest (suc j) l = rw (straight-exec turn j a n u r) (rest j (omega arith))
 
-  -- a run executed no FENCE, or the fence is posted
-  abbrev Posted : LineRun Machine → Line Machine → Type 0
-  Posted r a = NoFence turn (r .count) a ⊎ (r .line .machine .posted ≡ r .line .machine .marks .fence)
+  -- an executed FENCE is posted, where fences are, and leaves another fence than 0
+  exec-posts : s .posts ≡ true → (m u : Machine) (w : List ℕ) (n : ℕ) → turn m w ≡ exec n u → kindIn w ≡ Fence → u .posted ≡ u .marks .fence
+  exec-posts shown m u w n q f =
+      let e = exec-marks m u w n q in
+      let p : u .posted ≡ postedAfter true (act w) (m .posted) = rw shown at (e .0) in
+      p ∙ fence-posts (kindIn w) f w (m .posted) (m .marks .fence) ∙ sym (e .1)
 
-  -- so it is where fences are posted
-  pub runs-posted : s .posts ≡ true → (b : ℕ) (a : Line Machine) → Posted (runs turn b a) a
+  exec-some : (m u : Machine) (w : List ℕ) (n : ℕ) → turn m w ≡ exec n u → kindIn w ≡ Fence → u .marks .fence ≢ 0
+  exec-some m u w n q f z =
+      let e = exec-marks m u w n q in
+      let old = m .marks .fence in
+      fence-some w old (rw f at (e .2)) (sym (ap (λ (k : Kind). fenceAfter (entry k .action w) old) f) ∙ sym (e .1) ∙ z)
+
+  -- a run executed no FENCE, or this holds of what is posted and of the fence
+  abbrev Since : (ℕ → ℕ → Type 0) → LineRun Machine → Line Machine → Type 0
+  Since Q r a = NoFence turn (r .count) a ⊎ Q (r .line .machine .posted) (r .line .machine .marks .fence)
+
+  -- so it is with what every executed FENCE brings about: no other command changes either
+  runs-since : (Q : ℕ → ℕ → Type 0) → ((m u : Machine) (w : List ℕ) (n : ℕ) → turn m w ≡ exec n u → kindIn w ≡ Fence → Q (u .posted) (u .marks .fence))
+      → (b : ℕ) (a : Line Machine) → Since Q (runs turn b a) a
   unfolding runs
-  runs-posted shown zero a = inl (λ j l. absurd (omega arith))
-  runs-posted shown (suc b) a = go (next turn a) refl (λ n u. runs-posted shown b (beyond a n u))
+  runs-since Q fenced zero a = inl (λ j l. absurd (omega arith))
+  runs-since Q fenced (suc b) a = go (next turn a) refl (λ n u. runs-since Q fenced b (beyond a n u))
     where
-      go : (t : Turn Machine) → next turn a ≡ t → ((n : ℕ) (u : Machine) → Posted (runs turn b (beyond a n u)) (beyond a n u)) → Posted (runs turn (suc b) a) a
+      go : (t : Turn Machine) → next turn a ≡ t → ((n : ℕ) (u : Machine) → Since Q (runs turn b (beyond a n u)) (beyond a n u))
+          → Since Q (runs turn (suc b) a) a
       go (ends e) r ih = rw (runs-ends turn b a e r) (inl (λ j l. absurd (omega arith)))
       go (exec n u) r ih =
-          let e = exec-marks (a .machine) u (a .words) n r in
-          let k = kindIn (a .words) in
           let behind = runs turn b (beyond a n u) in
           rw (runs-exec turn b a n u r)
           (⊎-elim
           (λ without.
           ⊎-elim
-          (λ f.
-          let same = runs-no-fence b (beyond a n u) without in
-          let p : u .posted ≡ postedAfter true (act (a .words)) (a .machine .posted) = rw shown at (e .0) in
-          inr (same .0 ∙ p ∙ fence-posts k f (a .words) (a .machine .posted) (a .machine .marks .fence) ∙ sym (e .1) ∙ sym (same .1)))
+          (λ f. let same = runs-no-fence b (beyond a n u) without in inr (subst₂ Q (sym (same .0)) (sym (same .1)) (fenced (a .machine) u (a .words) n r f)))
           (λ first. inl (no-fence-on a n (behind .count) u r first without))
-          (fence-or-other k))
+          (fence-or-other (kindIn (a .words))))
           inr
           (ih n u))
+
+  -- where fences are posted, the last is
+  pub runs-posted : s .posts ≡ true → (b : ℕ) (a : Line Machine) → Since (λ posted fence. posted ≡ fence) (runs turn b a) a
+  runs-posted shown = runs-since (λ posted fence. posted ≡ fence) (exec-posts shown)
+
+  -- and it is never 0
+  pub runs-some : (b : ℕ) (a : Line Machine) → Since (λ posted fence. fence ≢ 0) (runs turn b a) a
+  runs-some = runs-since (λ posted fence. fence ≢ 0) exec-some
 
   -- where they are not, what is posted stays
   pub runs-unposted : s .posts ≡ false → (b : ℕ) (a : Line Machine) → runs turn b a .line .machine .posted ≡ a .machine .posted
@@ -239,9 +264,43 @@ module _ (s : Scene) (cap : ℕ) where
             ∙ ⊎-elim (λ without. absurd (with-one without)) (λ e. e) (runs-posted (by-min ∙ shown) b a),
       )
 
+  -- Document 02, P6: "FENCE 0 becomes a fault". After a run that executed a FENCE the fence is another number than 0, and a run never brings word 6 to 0
+  abbrev pub NeverZero : List ℕ → Line Machine → RingOutcome → Type 0
+  NeverZero ring a o =
+      ((¬ NoFence turn (o .count) a) → o .machine .marks .fence ≢ 0) × (getD (o .ring) 6 0 ≡ 0 → getD ring 6 0 ≡ 0)
+
+  pub left-never-zero : (g : Ring) (ring : List ℕ) (b : ℕ) (a : Line Machine) → s .posts ≡ postsIn g → a .machine .posted ≡ postedIn (postsIn g) ring
+      → Clear (postsIn g) (length ring) → NeverZero ring a (left g ring (a .words) (runs turn b a))
+  unfolding left
+  left-never-zero g ring b a by-min start clear =
+      let r = runs turn b a in
+      let after = left g ring (a .words) r .ring in
+      let kept : r .line .machine .posted ≡ a .machine .posted → getD after 6 0 ≡ 0 → getD ring 6 0 ≡ 0 =
+      λ same z. sym (left-same g ring (a .words) r (same ∙ start)) ∙ z in (
+        λ with-one. ⊎-elim (λ without. absurd (with-one without)) (λ n. n) (runs-some b a),
+        cases (postsIn g)
+            (λ shown.
+            ⊎-elim
+            (λ without. kept (runs-no-fence b a without .0))
+            (λ n.
+            ⊎-elim
+            (λ without. kept (runs-no-fence b a without .0))
+            (λ e z. absurd (n (sym e ∙ sym (left-posted g ring b a by-min start clear) ∙ posted-six (postsIn g) after shown ∙ z)))
+            (runs-posted (by-min ∙ shown) b a))
+            (runs-some b a))
+            (λ e. kept (runs-unposted (by-min ∙ e) b a)),
+      )
+
   -- a line that did not move tells the same
   pub still-tells : (g : Ring) (ring : List ℕ) (a : Line Machine) (o : RingOutcome) → o .count ≡ 0 → o .ring ≡ ring → o .machine ≡ a .machine → Tells g ring a o
   still-tells g ring a o uncounted same kept = (
     λ h. (ap (λ (l : List ℕ). getD l 6 0) same, ap (λ (m : Machine). m .marks .fence) kept),
     λ low with-one. absurd (with-one (λ j l. absurd (omega arith))),
+  )
+
+  -- nor does it bring word 6 to 0
+  pub still-never-zero : (ring : List ℕ) (a : Line Machine) (o : RingOutcome) → o .count ≡ 0 → o .ring ≡ ring → NeverZero ring a o
+  still-never-zero ring a o uncounted same = (
+    λ with-one. absurd (with-one (λ j l. absurd (omega arith))),
+    λ z. sym (ap (λ (l : List ℕ). getD l 6 0) same) ∙ z,
   )

@@ -3,7 +3,7 @@ use command::Data;
 use command::Finding;
 use command::Kind;
 ghost use mathlib.Core.Path.{_≡_};
-ghost use mathlib.Core.Bool.{true, cond, _&&_};
+ghost use mathlib.Core.Bool.{true, cond, not, _&&_};
 ghost use mathlib.Core.List.{_++_};
 ghost use lib.Dec.{eqb, leb};
 ghost use Prim.Native.Nat.{ℕ, _+_, _*_, _/_, _≤_, _<_};
@@ -93,6 +93,24 @@ fn operated(head: &[u32], last: usize) -> Asked
     }
 }
 
+// A fence, of another number than 0.
+fn fence_asked(head: &[u32]) -> Asked
+    ensures { λ r. ⌜ r ≡ cond (eqb (length (now (head .entry))) 2 && not (eqb (getD (now (head .entry)) 1 0) 0))
+        (record { words = 2; pixels = 0; bytes = 0 }) (record { words = 0; pixels = 0; bytes = 0 }) ⌝ }
+{
+    if head.len() != 2 {
+        return nothing();
+    }
+    if head[1] == 0 {
+        return nothing();
+    }
+    Asked {
+        words: 2,
+        pixels: 0,
+        bytes: 0,
+    }
+}
+
 // All words of a command with data behind its head, or 0 where the device faults: by its own turn, in a ring full of words.
 fn long_words(tail: Data, head: &[u32], carries: u64) -> u64
     requires { ⌜ (10 ≤ carries) × (kindIn (now head) ≡ kindWith tail) × (length (now head) ≡ entry (kindWith tail) .head) ⌝ }
@@ -157,7 +175,7 @@ fn asked_by(head: &[u32], carries: u64) -> Asked
         Kind::RectRopCopy => operated(head, 7),
         Kind::DefineAlphaCursor => cursor_asked(head, carries),
         Kind::UpdateVerbose => all_head(head, 6),
-        Kind::Fence => all_head(head, 2),
+        Kind::Fence => fence_asked(head),
         Kind::Escape => escape_asked(head, carries),
         Kind::Foreign => nothing(),
     }

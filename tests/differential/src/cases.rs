@@ -200,11 +200,18 @@ pub fn hold(exact: bool) -> bool {
     let answers = [b.run(&[30, 7], 1), b.run(&[], 1)];
     b.holds("case 12", answers == [(2, 1), (0, 0)]);
 
+    // 02's P6: "FENCE 0 becomes a fault; case 13 changes with it." It was "Fence 0 is stored."
     b.fresh(1, 1);
-    b.run(&[30, 7, 30, 0], ALL);
+    let answered = b.run(&[30, 7, 30, 0, 30, 8], ALL);
     let lengths = b.pair.right_lengths();
     let fence = b.step(Step::Fence { lengths });
-    b.holds("case 13", fence == (0, 0));
+    b.holds("case 13", answered == (11, 1) && fence == (0, 7));
+    let answered = b.run(&[], ALL);
+    b.holds("P6, the fault stands", answered == (23, 0));
+    b.fresh(1, 1);
+    let from = b.pair.ring_words()[3];
+    let answers = [b.run(&[30], 0), b.run(&[], ALL), b.run(&[0], 0), b.run(&[], 1)];
+    b.holds("P6, judged once both words are there", answers == [(2, 0), (1, 0), (2, 0), (11, 0)] && b.consumed(from) == 0);
 
     b.fresh(32, 32);
     let answered = b.run(&[2, 255, 30, 31, 4_294_967_295, 5], 9);
@@ -232,7 +239,8 @@ pub fn hold(exact: bool) -> bool {
         (&[][..], (0, 0), vec![], 99),
         (&[2, 1, 0, 0, 1, 1], (0, 1), vec![3], 99),
         (&[30], (1, 0), vec![], 99),
-        (&[30, 7, 30, 0], (0, 2), vec![3, 6], 0),
+        (&[30, 7, 30, 0], (11, 1), vec![3, 6], 7),
+        (&[30, 0], (11, 0), vec![], 99),
         (&[30, 7, 30, 8, 20], (10, 2), vec![3, 6], 8),
         (&[20], (10, 0), vec![], 99),
     ] {

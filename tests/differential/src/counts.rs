@@ -2,7 +2,7 @@
 
 use crate::model::device::{Condition, Cursor, Device, CURSOR_WORDS, DEVICE_WORDS};
 use crate::model::paint::{Rect, SOURCE};
-use crate::model::run::{Command, Executed};
+use crate::model::run::{moved_on, Command, Executed};
 use crate::pair::{Answered, Pair};
 use crate::step::Step;
 
@@ -124,6 +124,8 @@ events! {
     KeptAgainstWord0: "runs that executed a FENCE and posted none with ring word 0 at 28 or more", 1000;
     NotPosted: "runs with MIN 28 or more that executed commands and no FENCE", 100_000;
     PostedThenFault: "faults after a posted fence of the same run", 3000;
+    FenceZero: "faults at a FENCE 0", 1500;
+    FenceAwaited: "runs that waited at a FENCE, with a 0 behind the words that wait", 130;
     SubmitExact: "submitted commands that took every free word", 12_000;
     SubmitOneShort: "submitted commands refused for one word", 12_000;
     SubmitByWord3: "submitted commands taken or refused by ring word 3, and not by the device's STOP", 2000;
@@ -147,6 +149,7 @@ events! {
     SubmitManyArguments: "41 by too many arguments", 7000;
     SubmitBadCursor: "41 by a bad cursor head", 1000;
     SubmitBadOperation: "41 by a raster operation above 15", 1800;
+    SubmitFenceZero: "41 by a FENCE 0", 500;
     SubmitTooLong: "41 by a command longer than the ring carries", 4500;
     SubmitWholeRing: "41 by a command of as many words as the ring holds", 3000;
     SubmitCommandBeforeLent: "41, though the lent pixels or data are wrong in number", 10_000;
@@ -347,6 +350,11 @@ impl Counts {
             let inside = ring.min <= next && next < ring.max;
             self.event(Event::FullRing, inside && (next + 4 - ring.min) % size == ring.stop - ring.min);
             self.fences(ring.min, min, answered.answer, &pair.model.executed);
+            let consumed: u64 = pair.model.executed.iter().map(|executed| executed.words).sum();
+            let memory = pair.expected.ring.first(device.memory as usize / 4);
+            let fence_zero = [0, 1].map(|word| memory[moved_on(&ring, consumed + word) as usize / 4]) == [30, 0];
+            self.event(Event::FenceZero, fence_zero && answered.answer == 11);
+            self.event(Event::FenceAwaited, fence_zero && answered.answer == 1);
             pair.model.executed.iter().for_each(|executed| self.consumed(executed, &ring));
         }
         if let Some(after) = pair.device() {

@@ -784,8 +784,9 @@ impl Generator {
 
     fn fence(&mut self, device: &Device) -> Vec<u32> {
         let number = match self.random.below(4) {
+            _ if self.random.chance(1, 40) => 0,
             0 => (device.fence as u32).wrapping_add(1),
-            1 => device.fence as u32,
+            1 => (device.fence as u32).max(1),
             2 => self.random.word(),
             _ => self.value(),
         };

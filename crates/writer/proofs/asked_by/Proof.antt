@@ -77,7 +77,7 @@ asked-by-spec =
     (λ c. c .operated2 .ensures ∙ sym (by-fixed (c .before .before .before) RectRopCopy (c .before .enum-told5 .given .1) refl refl))
     (λ c. search needs)
     (λ c. c .all-head4 .ensures ∙ sym (by-whole (c .before .before .before) UpdateVerbose (c .before .enum-told7 .given .1) refl refl refl))
-    (λ c. c .all-head5 .ensures ∙ sym (by-whole (c .before .before .before) Fence (c .before .enum-told8 .given .1) refl refl refl))
+    (λ c. c .fence-asked .ensures ∙ sym (by-fixed (c .before .before .before) Fence (c .before .enum-told8 .given .1) refl refl))
     (λ c. search needs)
     (λ c. let e = c .before .before .before in
     asks-so _ 0 0 0 (c .nothing2 .ensures)

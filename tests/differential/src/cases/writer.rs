@@ -57,7 +57,7 @@ fn commands(b: &mut Bench) {
         &[13, 9, 0, 0, 1, 1, 15],
         &[14, 0, 0, 0, 0, 1, 1, 15],
         &[25, 0, 0, 1, 1, 3],
-        &[30, 0],
+        &[30, 1],
     ];
     for head in heads {
         b.filled(0);
@@ -80,6 +80,8 @@ fn commands(b: &mut Bench) {
     b.holds("P2, numbers not in the table", answers.iter().all(|&answer| answer == 41));
     let answers = [b.submit(&[], &[], &[]), b.submit(&[13, 9, 0, 0, 1, 1, 16], &[], &[]), b.submit(&[14, 0, 0, 0, 0, 1, 1, ALL], &[], &[])];
     b.holds("P2, no words, and raster operations above 15", answers == [41; 3]);
+    let answers = [b.submit(&[30, 0], &[], &[]), b.submit(&[30, 0], &[5], &[1])];
+    b.holds("P6, the writer refuses FENCE 0", answers == [41; 2]);
     b.holds("P2, a refused command writes nothing", b.waiting().len() == 5);
 }
 

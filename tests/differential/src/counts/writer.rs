@@ -117,6 +117,7 @@ impl Counts {
         if length == head {
             self.event(Event::SubmitBadCursor, submission.cursor_bad());
             self.event(Event::SubmitBadOperation, submission.operation_bad());
+            self.event(Event::SubmitFenceZero, submission.fence_zero());
             self.event(Event::SubmitTooLong, submission.words() >= holds(ring) && !submission.cursor_bad());
             self.event(Event::SubmitWholeRing, submission.words() == holds(ring));
         }

@@ -111,7 +111,8 @@ pub fn command_in(word: impl Fn(u64) -> u64, length: u64) -> Command {
 
 impl Model {
     /// "Each turn, in this order: .. Number not offered: 10. Head incomplete: 1. Cursor head bad: 11. Length above what the ring
-    /// carries: 12. Words missing: 1. Raster operation above 15: 11. Then it is executed".
+    /// carries: 12. Words missing: 1. Raster operation above 15: 11. Then it is executed". 02's P6: "11 for FENCE 0, judged once both words
+    /// are there, in the place of the raster check".
     pub(super) fn turn(&self, waiting: &Waiting) -> Turn {
         let number = waiting.word(0);
         let Some(head) = head_words(number) else {
@@ -120,6 +121,9 @@ impl Model {
             }
             return Turn::Ends(10);
         };
+        if self.breaks(Rule::FenceZeroJudgedEarly) && number == 30 && waiting.word(1) == 0 {
+            return Turn::Ends(11);
+        }
         if waiting.words < head {
             return Turn::Ends(1);
         }
@@ -161,7 +165,8 @@ impl Model {
                 return Turn::Ends(11);
             }
         }
-        if self.breaks(Rule::FenceZeroRefused) && command == Command::Fence(0) {
+        let zero_taken = self.breaks(Rule::FenceZeroStored) || self.breaks(Rule::FenceZeroConsumed);
+        if command == Command::Fence(0) && !zero_taken {
             return Turn::Ends(11);
         }
         Turn::Executes(command, length)
@@ -204,7 +209,8 @@ impl Model {
             // "Fence: the last number executed."
             Command::Fence(number) => {
                 let back = self.breaks(Rule::FenceNeverGoesBack) && *number < device.fence;
-                if !back {
+                let zero = self.breaks(Rule::FenceZeroConsumed) && *number == 0;
+                if !back && !zero {
                     device.fence = *number;
                 }
             }
@@ -337,8 +343,9 @@ impl Model {
             let words_to_end = (remembered.max - remembered.stop) / 4;
             let straddled = length > words_to_end;
             if let Command::Fence(number) = command {
-                let left_out =
-                    self.breaks(Rule::FencePostedInRowOnly) && straddled || self.breaks(Rule::SameFenceNotPosted) && number == old_fence;
+                let left_out = self.breaks(Rule::FencePostedInRowOnly) && straddled
+                    || self.breaks(Rule::SameFenceNotPosted) && number == old_fence
+                    || self.breaks(Rule::FenceZeroConsumed) && number == 0;
                 if self.posts(&remembered, ring) && !left_out {
                     ring[6] = if self.breaks(Rule::OldFencePosted) { old_fence } else { number } as u32;
                 }

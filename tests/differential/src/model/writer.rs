@@ -57,6 +57,11 @@ impl Submission {
         }
     }
 
+    /// 02's P6: "11 for FENCE 0", and "The writer of P2 refuses it too."
+    pub fn fence_zero(&self) -> bool {
+        self.number() == Some(30) && self.word(1) == 0
+    }
+
     /// The command itself, where it is one.
     pub fn command(&self) -> Command {
         command_in(|place| self.word(place), self.words())
@@ -208,7 +213,7 @@ impl Model {
         if submission.operation_bad() && !(self.breaks(Rule::SubmitOperation16) && submission.head.ends_with(&[16])) {
             return false;
         }
-        if self.breaks(Rule::SubmitFenceZeroRefused) && submission.head == [30, 0] {
+        if submission.fence_zero() && !self.breaks(Rule::SubmitFenceZeroTaken) {
             return false;
         }
         self.could_fit(submission, carries)
