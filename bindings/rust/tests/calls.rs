@@ -303,17 +303,36 @@ fn updates_fills_and_copies() {
 }
 
 #[test]
-fn every_raster_operation_follows_the_bit_rule() {
-    let (source, below) = (0b0011, 0b0101);
-    for number in 0..16 {
+fn every_raster_operation_is_named_and_follows_the_bit_rule() {
+    let (s, d): (u32, u32) = (0b0011, 0b0101);
+    let named = [
+        (rop::CLEAR, 0),
+        (rop::AND, s & d),
+        (rop::AND_REVERSE, s & !d),
+        (rop::COPY, s),
+        (rop::AND_INVERTED, !s & d),
+        (rop::NOOP, d),
+        (rop::XOR, s ^ d),
+        (rop::OR, s | d),
+        (rop::NOR, !(s | d)),
+        (rop::EQUIV, !(s ^ d)),
+        (rop::INVERT, !d),
+        (rop::OR_REVERSE, s | !d),
+        (rop::COPY_INVERTED, !s),
+        (rop::OR_INVERTED, !s | d),
+        (rop::NAND, !(s & d)),
+        (rop::SET, u32::MAX),
+    ];
+    for (number, (name, by_name)) in (0..16).zip(named) {
+        let bits = |s: u32, d: u32| number >> (3 - 2 * s - d) & 1; // bit 0 for 1, 1; bit 1 for 1, 0; bit 2 for 0, 1; bit 3 for 0, 0
+        let by_rule = (0..32).fold(0, |word, bit| word | bits(s >> bit & 1, d >> bit & 1) << bit);
+        assert_eq!((name, by_name), (number, by_rule));
         let mut adapter = Adapter::new(MEMORY, 1).unwrap();
         adapter.start(1, 1).unwrap();
-        adapter.submit(&fill(below, 0, 0, 1, 1)).unwrap();
-        adapter.submit(&Command::RectRopFill { colour: source, to: Rect::new(0, 0, 1, 1), rop: number }).unwrap();
+        adapter.submit(&fill(d, 0, 0, 1, 1)).unwrap();
+        adapter.submit(&Command::RectRopFill { colour: s, to: Rect::new(0, 0, 1, 1), rop: number }).unwrap();
         assert_eq!(adapter.run(9), run_of(End::Drained, 2));
-        let bits = |s: u32, d: u32| number >> (3 - 2 * s - d) & 1; // bit 0 for 1, 1; bit 1 for 1, 0; bit 2 for 0, 1; bit 3 for 0, 0
-        let expected = (0..32).fold(0, |word, bit| word | bits(source >> bit & 1, below >> bit & 1) << bit);
-        assert_eq!(adapter.screen(), [expected], "rop {number}");
+        assert_eq!(adapter.screen(), [by_rule], "rop {number}");
     }
 }
 

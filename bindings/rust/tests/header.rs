@@ -1,4 +1,4 @@
-//! The names and numbers of `include/svga.h` and of this crate are the same.
+//! The names and numbers of `include/svga.h` and of this crate are the same, and those of the raster operations are the proved code's.
 
 use std::collections::BTreeMap;
 use std::fs;
@@ -64,6 +64,22 @@ fn headers() -> BTreeMap<String, u64> {
 #[test]
 fn the_header_and_this_crate_agree() {
     assert_eq!(headers(), ours());
+}
+
+/// The raster operations that the proved code names, under the header's names.
+fn named_in_code() -> Vec<(String, u32)> {
+    let code = Path::new(env!("CARGO_MANIFEST_DIR")).join("../../crates/pixel/src/lib.rt");
+    let text = fs::read_to_string(code).expect("crates/pixel/src/lib.rt");
+    text.lines()
+        .filter_map(|line| line.strip_prefix("pub const ")?.strip_suffix(';')?.split_once(": u32 = "))
+        .map(|(name, value)| (format!("SVGA_ROP_{name}"), value.parse().unwrap()))
+        .collect()
+}
+
+#[test]
+fn raster_operations_are_those_of_the_code() {
+    let ours: Vec<_> = svga::rop::ALL.iter().map(|&(name, value)| (name.to_string(), value)).collect();
+    assert_eq!(named_in_code(), ours);
 }
 
 #[test]

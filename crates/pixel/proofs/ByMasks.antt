@@ -1,4 +1,5 @@
--- What the row loops compute by masks is the raster operation, for every number, 16 and above too.
+-- What the row loops compute by masks is the raster operation, for every number, 16 and above too, and at the number of a named operation that operation: there
+-- is no second list of operations.
 -- Assumes nothing.
 use mathlib.Core.Path.{_≡_, refl, sym, _∙_}
 use mathlib.Core.Bool.{Bool, true, false, _&&_, cond}
@@ -10,9 +11,11 @@ use mir.Facts.{and-yes}
 use borrow.Author.Tests.{eqb-true, eqb-false, eq-eqb, ne-eqb}
 use borrow.Table.Steps.{cases}
 use Rattle.pixel.specs.RasterOperation.{rasterOp}
+use Rattle.pixel.specs.Named.{Operation, entry}
 use Rattle.pixel.specs.declared.Masks.{Masks}
 use Rattle.pixel.specs.Masks.{reducePixel, Reduces, mergePixel, Merges}
 use Rattle.pixel.proofs.Bitwise.{by-bit, by-bits, source, dest, zeros, inverse, both-and, both-xor, ruled, agree, rasterBit, raster}
+use Rattle.pixel.proofs.Named.{named-is}
 
 -- a function of one bit, by a mask to keep and a mask to flip
 picked : (P : ℕ → ℕ) → P 1 < 2 → P 0 < 2 → (y : ℕ) → y < 2 → differ (min y (differ (P 1) (P 0))) (P 0) ≡ P y
@@ -31,6 +34,11 @@ reduced rop s fits =
       agrees = λ d. agree (both-xor (both-and dest (both-xor (ruled source (inverse zeros) r) flip)) flip) r
           (λ x y h k. picked (rasterBit rop x) (r .bit x 1 h (omega arith)) (r .bit x 0 h (omega arith)) y k) 32 s d fits;
     }
+
+-- masks of an operation's number, as `pixel::reduce` returns them, make of each destination what the named operation makes of it
+pub reduced-is : (o : Operation) {s keep flip : ℕ} → Reduces (entry o .number) s keep flip → (d : ℕ) → s < 2 ^ 32 → d < 2 ^ 32
+    → reducePixel keep flip d ≡ entry o .words s d
+reduced-is o {s} masks d h k = masks .agrees d k ∙ named-is o s d h k
 
 pub nothing-kept : (flip d : ℕ) → reducePixel 0 flip d ≡ flip
 unfolding reducePixel
@@ -120,3 +128,7 @@ merged-words rop s d h k =
 
 pub merged : (rop : ℕ) → Merges rop (masksOf rop)
 merged rop = record { agrees = merged-words rop }
+
+-- as above, for masks as `pixel::masks_of` returns them
+pub merged-is : (o : Operation) {m : Masks} → Merges (entry o .number) m → (s d : ℕ) → s < 2 ^ 32 → d < 2 ^ 32 → mergePixel m s d ≡ entry o .words s d
+merged-is o masks s d h k = masks .agrees s d h k ∙ named-is o s d h k

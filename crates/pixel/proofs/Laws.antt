@@ -1,16 +1,17 @@
 -- Laws of the raster operations and of the blend, for readers and for the crates above.
 -- Assumes nothing.
-use mathlib.Core.Path.{_≡_, refl, sym}
+use mathlib.Core.Path.{_≡_}
 use Prim.Native.Nat.{ℕ, _+_, _-_, _*_, _/_, _%_, _^_, _≤_, _<_}
 use native.Mathlib.Nat.{mul-le-mul-left}
 use native.Mathlib.Omega.{arith}
 use borrow.Author.Tests.{le-ltb}
 use Rattle.pixel.specs.RasterOperation.{rasterOp}
 use Rattle.pixel.specs.Blend.{topByte, blendColour, blendPixel}
-use Rattle.pixel.proofs.Bitwise.{source, under, raster, named}
+use Rattle.pixel.proofs.Bitwise.{under, raster}
+use Rattle.pixel.proofs.Named.{copy-is}
 
 pub copy-stores-source : (s d : ℕ) → s < 2 ^ 32 → d < 2 ^ 32 → rasterOp 3 s d ≡ s
-copy-stores-source s d h k = sym (named source 3 refl refl refl refl s d h k)
+copy-stores-source = copy-is
 
 pub no-operation : (rop s d : ℕ) → 16 ≤ rop → rasterOp rop s d ≡ d
 unfolding rasterOp

@@ -1,3 +1,4 @@
 pub mod Bitwise
+pub mod Named
 pub mod ByMasks
 pub mod Laws

@@ -1,3 +1,4 @@
 pub mod RasterOperation
+pub mod Named
 pub mod Blend
 pub mod Masks

@@ -5,29 +5,61 @@ ghost use Rattle.pixel.specs.RasterOperation.{rasterOp};
 ghost use Rattle.pixel.specs.Blend.{blendColour, blendPixel};
 ghost use Rattle.pixel.specs.Masks.{Reduces, PixelReduced, Merges, PixelMerged};
 
-// The X protocol's raster operations, by name: clear, and, andReverse, copy, andInverted, noop, xor, or,
-// nor, equiv, invert, orReverse, copyInverted, orInverted, nand, set. A number above 15 is none of them and leaves d.
-// Rules out: an operation with s and d exchanged (2 for 4); one that treats 16 as 0.
+// The X protocol's raster operations, by name and number.
+pub const CLEAR: u32 = 0;
+
+pub const AND: u32 = 1;
+
+pub const AND_REVERSE: u32 = 2;
+
+pub const COPY: u32 = 3;
+
+pub const AND_INVERTED: u32 = 4;
+
+pub const NOOP: u32 = 5;
+
+pub const XOR: u32 = 6;
+
+pub const OR: u32 = 7;
+
+pub const NOR: u32 = 8;
+
+pub const EQUIV: u32 = 9;
+
+pub const INVERT: u32 = 10;
+
+pub const OR_REVERSE: u32 = 11;
+
+pub const COPY_INVERTED: u32 = 12;
+
+pub const OR_INVERTED: u32 = 13;
+
+pub const NAND: u32 = 14;
+
+pub const SET: u32 = 15;
+
+// An operation on words, s the source and d the destination. A number above 15 is none of them and leaves d.
+// Rules out: an operation with s and d exchanged (AND_REVERSE for AND_INVERTED); one that treats 16 as 0.
 pub fn raster_op(rop: u32, s: u32, d: u32) -> u32
     ensures { λ r. ⌜ r ≡ rasterOp rop s d ⌝ }
 {
     match rop {
-        0 => 0,
-        1 => s & d,
-        2 => s & !d,
-        3 => s,
-        4 => !s & d,
-        5 => d,
-        6 => s ^ d,
-        7 => s | d,
-        8 => !(s | d),
-        9 => !(s ^ d),
-        10 => !d,
-        11 => s | !d,
-        12 => !s,
-        13 => !s | d,
-        14 => !(s & d),
-        15 => 0xFFFF_FFFF,
+        CLEAR => 0,
+        AND => s & d,
+        AND_REVERSE => s & !d,
+        COPY => s,
+        AND_INVERTED => !s & d,
+        NOOP => d,
+        XOR => s ^ d,
+        OR => s | d,
+        NOR => !(s | d),
+        EQUIV => !(s ^ d),
+        INVERT => !d,
+        OR_REVERSE => s | !d,
+        COPY_INVERTED => !s,
+        OR_INVERTED => !s | d,
+        NAND => !(s & d),
+        SET => 0xFFFF_FFFF,
         _ => d,
     }
 }

@@ -1,9 +1,12 @@
--- `pixel::raster_op` meets its contract: each case works bit by bit and has the rule's four bits; any other number is 16 or more.
+-- `pixel::raster_op` meets its contract: each case is the named operation that is the rule at its number; any other number is 16 or more.
 -- Assumes nothing.
-use mathlib.Core.Path.{_≡_, refl, sym}
+use mathlib.Core.Path.{_≡_, sym}
 use Prim.Native.Nat.{ℕ, zero, suc, _≤_, zero-le}
 use native.Mathlib.Omega.{arith}
-use Rattle.pixel.proofs.Bitwise.{named, source, dest, zeros, inverse, both-and, both-or, both-xor}
+use Rattle.pixel.specs.RasterOperation.{rasterOp}
+use Rattle.pixel.specs.Named.{Operation, entry}
+use Rattle.pixel.specs.Named.{clear, and, andReverse, copy, andInverted, noop, xor, or, nor, equiv, invert, orReverse, copyInverted, orInverted, nand, set}
+use Rattle.pixel.proofs.Named.{named-is}
 use Rattle.pixel.proofs.Laws.{no-operation}
 use Rattle.pixel.proofs.raster_op.Statement.{statement}
 use Rattle.pixel.proofs.raster_op.Tie as tie
@@ -17,24 +20,28 @@ at-least : (n x : ℕ) → Missed x n → n ≤ x
 at-least zero x m = zero-le
 at-least (suc n) x m = let h = at-least n x (m .0) in let e = m .1 in omega arith
 
+-- an arm that does what the named operation of its number does
+case : (c : tie.Start) (o : Operation) → let a = c .args in a .rop ≡ entry o .number → entry o .words (a .s) (a .d) ≡ rasterOp (a .rop) (a .s) (a .d)
+case c o e = rw e (sym (named-is o _ _ (c .fits .s .fits) (c .fits .d .fits)))
+
 pub raster-op-spec : {M : Type 1} → statement M
 raster-op-spec =
     tie.close
     (tie.spec
-    (λ c. rw (c .match .keys1) (named zeros 0 refl refl refl refl _ _ (c .before .fits .s .fits) (c .before .fits .d .fits)))
-    (λ c. rw (c .match .keys2) (named (both-and source dest) 1 refl refl refl refl _ _ (c .before .fits .s .fits) (c .before .fits .d .fits)))
-    (λ c. rw (c .match .keys3) (named (both-and source (inverse dest)) 2 refl refl refl refl _ _ (c .before .fits .s .fits) (c .before .fits .d .fits)))
-    (λ c. rw (c .match .keys4) (named source 3 refl refl refl refl _ _ (c .before .fits .s .fits) (c .before .fits .d .fits)))
-    (λ c. rw (c .match .keys5) (named (both-and (inverse source) dest) 4 refl refl refl refl _ _ (c .before .fits .s .fits) (c .before .fits .d .fits)))
-    (λ c. rw (c .match .keys6) (named dest 5 refl refl refl refl _ _ (c .before .fits .s .fits) (c .before .fits .d .fits)))
-    (λ c. rw (c .match .keys7) (named (both-xor source dest) 6 refl refl refl refl _ _ (c .before .fits .s .fits) (c .before .fits .d .fits)))
-    (λ c. rw (c .match .keys8) (named (both-or source dest) 7 refl refl refl refl _ _ (c .before .fits .s .fits) (c .before .fits .d .fits)))
-    (λ c. rw (c .match .keys9) (named (inverse (both-or source dest)) 8 refl refl refl refl _ _ (c .before .fits .s .fits) (c .before .fits .d .fits)))
-    (λ c. rw (c .match .keys10) (named (inverse (both-xor source dest)) 9 refl refl refl refl _ _ (c .before .fits .s .fits) (c .before .fits .d .fits)))
-    (λ c. rw (c .match .keys11) (named (inverse dest) 10 refl refl refl refl _ _ (c .before .fits .s .fits) (c .before .fits .d .fits)))
-    (λ c. rw (c .match .keys12) (named (both-or source (inverse dest)) 11 refl refl refl refl _ _ (c .before .fits .s .fits) (c .before .fits .d .fits)))
-    (λ c. rw (c .match .keys13) (named (inverse source) 12 refl refl refl refl _ _ (c .before .fits .s .fits) (c .before .fits .d .fits)))
-    (λ c. rw (c .match .keys14) (named (both-or (inverse source) dest) 13 refl refl refl refl _ _ (c .before .fits .s .fits) (c .before .fits .d .fits)))
-    (λ c. rw (c .match .keys15) (named (inverse (both-and source dest)) 14 refl refl refl refl _ _ (c .before .fits .s .fits) (c .before .fits .d .fits)))
-    (λ c. rw (c .match .keys16) (named (inverse zeros) 15 refl refl refl refl _ _ (c .before .fits .s .fits) (c .before .fits .d .fits)))
+    (λ c. case (c .before) clear (c .match .keys1))
+    (λ c. case (c .before) and (c .match .keys2))
+    (λ c. case (c .before) andReverse (c .match .keys3))
+    (λ c. case (c .before) copy (c .match .keys4))
+    (λ c. case (c .before) andInverted (c .match .keys5))
+    (λ c. case (c .before) noop (c .match .keys6))
+    (λ c. case (c .before) xor (c .match .keys7))
+    (λ c. case (c .before) or (c .match .keys8))
+    (λ c. case (c .before) nor (c .match .keys9))
+    (λ c. case (c .before) equiv (c .match .keys10))
+    (λ c. case (c .before) invert (c .match .keys11))
+    (λ c. case (c .before) orReverse (c .match .keys12))
+    (λ c. case (c .before) copyInverted (c .match .keys13))
+    (λ c. case (c .before) orInverted (c .match .keys14))
+    (λ c. case (c .before) nand (c .match .keys15))
+    (λ c. case (c .before) set (c .match .keys16))
     (λ c. sym (no-operation (c .before .args .rop) _ _ (at-least 16 (c .before .args .rop) (c .match .rest)))))
