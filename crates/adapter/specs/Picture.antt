@@ -3,19 +3,19 @@ use Rattle.std.specs.Prelude.{ℕ, Bool, cond, ◌&&◌, List, length, ◌==◌}
 use Rattle.picture.specs.declared.Overlay.{Overlay}
 use Rattle.picture.specs.declared.Overlay.TheVariants.{Nothing, Cursor as Appears}
 use Rattle.picture.specs.Picture.{composed}
-use Rattle.cursor.specs.Plane.{imageWords}
+use Rattle.cursor.specs.Plane.{image_words}
 use Rattle.cursor.specs.declared.Defined.{Defined}
 use Rattle.cursor.specs.declared.Defined.TheVariants.{Undefined, Cursor}
 use Rattle.device.specs.declared.Device.{Device}
-use Rattle.device.specs.Device.{pixelsOf, width_of, heightOf, definedOf, modeFits, wellFormed}
+use Rattle.device.specs.Device.{pixels_of, width_of, height_of, defined_of, mode_fits, well_formed}
 use Rattle.adapter.specs.declared.PictureAnswer.{PictureAnswer}
 use Rattle.adapter.specs.declared.PictureAnswer.TheVariants.{Taken as Shown, WrongLength as NotLent, TooLarge}
 
 -- picture: 0 taken, 20 lent length, 24 width·height above P
-abbrev pub pictureNumber : PictureAnswer → ℕ
-pictureNumber Shown = 0
-pictureNumber NotLent = 20
-pictureNumber TooLarge = 24
+abbrev pub picture_number : PictureAnswer → ℕ
+picture_number Shown = 0
+picture_number NotLent = 20
+picture_number TooLarge = 24
 
 -- A picture answers a number and leaves an output.
 pub record Pictured : Type 0 where
@@ -23,25 +23,25 @@ pub record Pictured : Type 0 where
   pub output : List ℕ
 
 abbrev pub pictured : PictureAnswer → List ℕ → Pictured
-pictured a output = record { answer = pictureNumber a; output = output }
+pictured a output = record { answer = picture_number a; output = output }
 
 -- "In a picture the cursor appears if shown and its remembered id is that of the defined cursor": at the remembered X and Y.
-unfoldable pub cursorOver : Device → Defined → Overlay
-cursorOver d Undefined = Nothing
-cursorOver d (Cursor s) =
+unfoldable pub cursor_over : Device → Defined → Overlay
+cursor_over d Undefined = Nothing
+cursor_over d (Cursor s) =
     cond d.plane.shown (cond (d.plane.id == s.id) (Appears (record { shape = s; x = d.plane.x; y = d.plane.y })) Nothing) Nothing
 
 -- "the screen (P), the cursor image (4,096), and for a finished picture an output (P)"
-unfoldable pub lengthsGood : ℕ → ℕ → ℕ → ℕ → Bool
-lengthsGood pixels screen image output = screen == pixels && (image == imageWords && output == pixels)
+unfoldable pub lengths_good : ℕ → ℕ → ℕ → ℕ → Bool
+lengths_good pixels screen image output = screen == pixels && (image == image_words && output == pixels)
 
 -- "a picture 20, 24"; 24 is "width·height above P". A device that no call can have made answers 24.
-unfoldable pub pictureOf : Device → List ℕ → List ℕ → List ℕ → Pictured
-pictureOf d screen image output =
-    cond (wellFormed d)
-    (cond (lengthsGood (pixelsOf d) (length screen) (length image) (length output))
-    (cond (modeFits d)
-    (record { answer = 0; output = composed (width_of d) (heightOf d) (cursorOver d (definedOf d)) screen image output })
+unfoldable pub picture_of : Device → List ℕ → List ℕ → List ℕ → Pictured
+picture_of d screen image output =
+    cond (well_formed d)
+    (cond (lengths_good (pixels_of d) (length screen) (length image) (length output))
+    (cond (mode_fits d)
+    (record { answer = 0; output = composed (width_of d) (height_of d) (cursor_over d (defined_of d)) screen image output })
     (record { answer = 24; output = output }))
     (record { answer = 20; output = output }))
     (record { answer = 24; output = output })

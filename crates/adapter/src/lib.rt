@@ -1,8 +1,8 @@
 // The device: making, registers, run, picture, offscreen rectangle, fences.
 ghost use Rattle.std.specs.Prelude.{◌≡◌};
-ghost use Rattle.device.specs.Device.{definedOf};
-ghost use Rattle.adapter.specs.Picture.{pictureNumber, pictured, cursorOver, lengthsGood, pictureOf};
-ghost use Rattle.adapter.specs.Fence.{fenceOf, fencePassed};
+ghost use Rattle.device.specs.Device.{defined_of};
+ghost use Rattle.adapter.specs.Picture.{picture_number, pictured, cursor_over, lengths_good, picture_of};
+ghost use Rattle.adapter.specs.Fence.{fence_of, fence_passed};
 
 use cursor::{Defined, IMAGE_WORDS};
 use picture::{Overlay, VisibleCursor};
@@ -28,7 +28,7 @@ pub enum PictureAnswer {
 
 // Rules out: 20 and 24 exchanged; 1 for a picture that was taken.
 pub fn picture_number(answer: PictureAnswer) -> u32
-    ensures { result ≡ pictureNumber answer }
+    ensures { result ≡ picture_number answer }
 {
     match answer {
         PictureAnswer::Taken => 0,
@@ -41,7 +41,7 @@ pub fn picture_number(answer: PictureAnswer) -> u32
 
 // The cursor that appears in a picture: shown, and its remembered id is that of the defined cursor.
 fn cursor_over(d: Device) -> Overlay
-    ensures { result ≡ cursorOver d (definedOf d) }
+    ensures { result ≡ cursor_over d (defined_of d) }
 {
     let plane = d.plane;
     let marks = d.marks;
@@ -66,7 +66,7 @@ fn cursor_over(d: Device) -> Overlay
 }
 
 fn lengths_good(pixels: usize, screen: usize, image: usize, output: usize) -> bool
-    ensures { result ≡ lengthsGood pixels screen image output }
+    ensures { result ≡ lengths_good pixels screen image output }
 {
     if screen != pixels {
         return false;
@@ -80,7 +80,7 @@ fn lengths_good(pixels: usize, screen: usize, image: usize, output: usize) -> bo
 // The mode's pixels in the output, with the cursor over them.
 // Rules out: the bare screen always; a cursor at the registers' X and Y of now; output beyond the mode changed.
 pub fn picture(d: Device, screen: &[u32], image: &[u32], output: &mut [u32]) -> PictureAnswer
-    ensures { pictured result output.new ≡ pictureOf d screen.now image.now output.old }
+    ensures { pictured result output.new ≡ picture_of d screen.now image.now output.old }
 {
     let good = is_well_formed(d);
     if !good {
@@ -107,7 +107,7 @@ pub fn picture(d: Device, screen: &[u32], image: &[u32], output: &mut [u32]) -> 
 // The last fence number executed; 0 at first.
 // Rules out: 0 always; the fence that was asked about last.
 pub fn fence(d: Device) -> u32
-    ensures { result ≡ fenceOf d }
+    ensures { result ≡ fence_of d }
 {
     let marks = d.marks;
     marks.fence
@@ -116,7 +116,7 @@ pub fn fence(d: Device) -> u32
 // Whether a fence has passed: numbers wrap, and half of them lie behind the last.
 // Rules out: a comparison that does not wrap (last 1 has passed 4294967295); a fence 2^31 ahead counted as passed.
 pub fn fence_passed(d: Device, number: u32) -> bool
-    ensures { result ≡ fencePassed (fenceOf d) number }
+    ensures { result ≡ fence_passed (fence_of d) number }
 {
     let marks = d.marks;
     let gap = std::num::wrapping_sub_u32(marks.fence, number);

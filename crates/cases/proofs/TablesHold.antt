@@ -2,44 +2,44 @@
 -- Assumes nothing.
 use mathlib.Core.Path.{refl}
 use Rattle.ring.specs.Waiting.{placed}
-use Rattle.register.specs.Numbers.{numbers, registerOf}
-use Rattle.cursor.specs.Plane.{shapeGood}
+use Rattle.register.specs.Numbers.{numbers, register_of}
+use Rattle.cursor.specs.Plane.{shape_good}
 use Rattle.execution.specs.Table.{unless, turn_of}
 use Rattle.execution.specs.Turns.{runs}
 use Rattle.command.specs.Commands.{entry, kind_of, commands}
-use Rattle.device.specs.Device.{sizesGood, modeGood, conditionGood, definedGood, wellFormed}
-use Rattle.register_read.specs.Registers.{writableValue, readOnlyValue, read_by, read_of}
+use Rattle.device.specs.Device.{sizes_good, mode_good, condition_good, defined_good, well_formed}
+use Rattle.register_read.specs.Registers.{writable_value, read_only_value, read_by, read_of}
 use Rattle.cases.specs.Cases.{AllEqual}
-use Rattle.cases.specs.Tables.{Reads, NotThere, freshDevice, freshReads, absent, setDevice, setReads, commandTable, CommandsHold, operations, fences, foreignNumbers, NotOfferedAny, answerNumbers}
+use Rattle.cases.specs.Tables.{Reads, NotThere, fresh_device, fresh_reads, absent, set_device, set_reads, command_table, CommandsHold, operations, fences, foreign_numbers, NotOfferedAny, answer_numbers}
 
-pub fresh-reads : Reads freshDevice freshReads
-unfolding freshReads sizesGood modeGood conditionGood definedGood wellFormed registerOf numbers writableValue readOnlyValue read_by read_of
-fresh-reads = refl
+pub fresh_reads_lem : Reads fresh_device fresh_reads
+unfolding fresh_reads sizes_good mode_good condition_good defined_good well_formed register_of numbers writable_value read_only_value read_by read_of
+fresh_reads_lem = refl
 
-pub fresh-absent : NotThere freshDevice absent
-unfolding sizesGood modeGood conditionGood definedGood wellFormed registerOf numbers read_by read_of
-fresh-absent = refl
+pub fresh_absent : NotThere fresh_device absent
+unfolding sizes_good mode_good condition_good defined_good well_formed register_of numbers read_by read_of
+fresh_absent = refl
 
-pub set_reads : Reads setDevice setReads
-unfolding setReads sizesGood modeGood conditionGood definedGood wellFormed placed registerOf numbers writableValue readOnlyValue read_by read_of
-set_reads = refl
+pub set_reads_lem : Reads set_device set_reads
+unfolding set_reads sizes_good mode_good condition_good defined_good well_formed placed register_of numbers writable_value read_only_value read_by read_of
+set_reads_lem = refl
 
-pub commands-hold : CommandsHold
-unfolding commandTable entry kind_of commands shapeGood unless turn_of runs
-commands-hold = record { names = refl; offered = refl; heads = refl; lengths = refl; actions = refl; executed = refl; waiting = refl }
+pub commands_hold : CommandsHold
+unfolding command_table entry kind_of commands shape_good unless turn_of runs
+commands_hold = record { names = refl; offered = refl; heads = refl; lengths = refl; actions = refl; executed = refl; waiting = refl }
 
-pub operations-hold : AllEqual operations
+pub operations_hold : AllEqual operations
 unfolding operations entry kind_of commands unless turn_of runs
-operations-hold = (refl, (refl, tt))
+operations_hold = (refl, (refl, tt))
 
-pub fences-hold : AllEqual fences
+pub fences_hold : AllEqual fences
 unfolding fences entry kind_of commands unless turn_of runs
-fences-hold = (refl, (refl, (refl, tt)))
+fences_hold = (refl, (refl, (refl, tt)))
 
-pub not-offered : NotOfferedAny foreignNumbers
+pub not_offered : NotOfferedAny foreign_numbers
 unfolding entry kind_of commands unless turn_of runs
-not-offered = record { no_row = refl; not-offered = refl; alone = refl; with-more = refl }
+not_offered = record { no_row = refl; not_offered = refl; alone = refl; with_more = refl }
 
-pub answers-hold : AllEqual answerNumbers
-unfolding answerNumbers
-answers-hold = (refl, (refl, (refl, (refl, (refl, (refl, (refl, (refl, (refl, (refl, (refl, tt)))))))))))
+pub answers_hold : AllEqual answer_numbers
+unfolding answer_numbers
+answers_hold = (refl, (refl, (refl, (refl, (refl, (refl, (refl, (refl, (refl, (refl, (refl, tt)))))))))))

@@ -5,31 +5,31 @@ use Rattle.cursor.specs.declared.Shape.{Shape}
 use Rattle.cursor.specs.declared.Defined.TheVariants.{Undefined}
 use Rattle.execution.specs.declared.Cause.TheVariants.{NotOffered, BadOperand, TooLong, BadNext}
 use Rattle.execution.specs.declared.End.TheVariants.{Drained, Waiting, Fault}
-use Rattle.execution.specs.Straight.{endNumber, causeNumber}
-use Rattle.execution.specs.Claim.{spent, standing, ended, answerNumber, appended, replyNumber}
+use Rattle.execution.specs.Straight.{end_number, cause_number}
+use Rattle.execution.specs.Claim.{spent, standing, ended, answer_number, appended, reply_number}
 use Rattle.command.specs.declared.Source.{Source}
 use Rattle.command.specs.declared.Kind.{Kind}
 use Rattle.command.specs.declared.Kind.TheVariants.{Update, RectFill, RectCopy, RectRopFill, RectRopCopy, DefineAlphaCursor, UpdateVerbose, Fence, Escape, Foreign}
 use Rattle.command.specs.declared.Action.{Action}
 use Rattle.command.specs.declared.Action.TheVariants as A
-use Rattle.command.specs.Commands.{entry, sizeBy, kind_of}
+use Rattle.command.specs.Commands.{entry, size_by, kind_of}
 use Rattle.ring.specs.declared.AppendAnswer.TheVariants as Append
-use Rattle.ring.specs.Append.{appendNumber}
+use Rattle.ring.specs.Append.{append_number}
 use Rattle.device.specs.declared.Condition.TheVariants.{Running}
 use Rattle.device.specs.declared.Device.{Device}
 use Rattle.device.specs.Device.{fresh}
 use Rattle.device.specs.declared.Making.TheVariants as Making
 use Rattle.device.specs.Making.{creation}
 use Rattle.register_write.specs.declared.WriteAnswer.TheVariants as Write
-use Rattle.register_write.specs.Answers.{writeNumber}
+use Rattle.register_write.specs.Answers.{write_number}
 use Rattle.register_read.specs.declared.Value.TheVariants as Value
 use Rattle.register_read.specs.Answers.{reading}
 use Rattle.register_read.specs.Registers.{read_of}
 use Rattle.device_run.specs.declared.RunAnswer.TheVariants as Run
-use Rattle.device_run.specs.Run.{runNumber}
+use Rattle.device_run.specs.Run.{run_number}
 use Rattle.adapter.specs.declared.PictureAnswer.TheVariants as Picture
-use Rattle.adapter.specs.Picture.{pictureNumber}
-use Rattle.cases.specs.Cases.{Case, ◌is◌, rect, zeros, answerWith, answer}
+use Rattle.adapter.specs.Picture.{picture_number}
+use Rattle.cases.specs.Cases.{Case, ◌is◌, rect, zeros, answer_with, answer}
 
 -- ---- registers
 
@@ -51,11 +51,11 @@ abbrev pub NotThere : Device → List ℕ → Type 0
 NotThere d indices = map (read_of d) indices ≡ map (λ (i : ℕ). record { answer = 30; value = 0 }) indices
 
 -- A device as it is made, for M = 65,536 and P = 307,200, the pixels of its mode.
-abbrev pub freshDevice : Device
-freshDevice = fresh 65536 307200
+abbrev pub fresh_device : Device
+fresh_device = fresh 65536 307200
 
-unfoldable pub freshReads : List Row
-freshReads =
+unfoldable pub fresh_reads : List Row
+fresh_reads =
     -- "Fresh: id 0x90000000, mode 640 by 480, disabled"
     (0 reads 0x90000000)  -- ID
     ∷ (1 reads 0)  -- ENABLE
@@ -98,8 +98,8 @@ absent = 29 ∷ 1024 ∷ 4294967295 ∷ []
 
 -- A fresh device has many zeros, and equal numbers at 4 and 12 and at 15 and 16. So the same of one of M = 10,256 and P = 1,000,000 whose registers hold
 -- numbers of their own: enabled, configured with the smallest ring, busy.
-abbrev pub setDevice : Device
-setDevice = record {
+abbrev pub set_device : Device
+set_device = record {
   sizes = record { memory = 10256; pixels = 1000000 };
   registers = record {
     id = 0x90000002;
@@ -119,8 +119,8 @@ setDevice = record {
   condition = Running (record { min = 4; max = 2564; stop = 4 });
 }
 
-unfoldable pub setReads : List Row
-setReads =
+unfoldable pub set_reads : List Row
+set_reads =
     (0 reads 0x90000002)
     ∷ (1 reads 1)
     ∷ (2 reads 800)
@@ -171,8 +171,8 @@ abbrev pub shape : ℕ → ℕ → ℕ → ℕ → ℕ → Shape
 shape id hotx hoty w h = record { id = id; hotx = hotx; hoty = hoty; w = w; h = h }
 
 -- Arguments are 101, 102, .. in the paper's order where they are free. A plain fill or copy is raster operation 3, which stores the source.
-unfoldable pub commandTable : List Command
-commandTable =
+unfoldable pub command_table : List Command
+command_table =
     -- "1 UPDATE | 5 | x y w h"
     record { number = 1; name = Update; head = 5; example = 1 ∷ 101 ∷ 102 ∷ 103 ∷ 104 ∷ []; length = 5; does = A.Update (rect 101 102 103 104) }
     -- "2 RECT_FILL | 6 | colour x y w h"
@@ -238,13 +238,13 @@ commandTable =
 -- The claim, column by column: the number names the command, which is offered; its row has these lengths and arguments; a run of budget 1 executes the
 -- example (answer 2), and waits (1) where its last word is missing.
 abbrev pub column : {A : Type 0} → (Command → A) → List A
-column of = map of commandTable
+column of = map of command_table
 
 pub record CommandsHold : Type 0 where
   pub names : column (λ c. kind_of c.number) ≡ column (λ c. c.name)
   pub offered : column (λ c. (entry c.name).offered) ≡ column (λ c. true)
   pub heads : column (λ c. (entry c.name).head) ≡ column (λ c. c.head)
-  pub lengths : column (λ c. sizeBy c.name c.example) ≡ column (λ c. c.length)
+  pub lengths : column (λ c. size_by c.name c.example) ≡ column (λ c. c.length)
   pub actions : column (λ c. (entry c.name).action c.example) ≡ column (λ c. c.does)
   pub executed : column (λ c. answer c.example) ≡ column (λ c. 2)
   pub waiting : column (λ c. answer (take (c.length - 1) c.example)) ≡ column (λ c. 1)
@@ -262,48 +262,48 @@ operations =
 unfoldable pub fences : List Case
 fences =
     (map answer ((30 ∷ []) ∷ (30 ∷ 0 ∷ []) ∷ (30 ∷ 1 ∷ []) ∷ (30 ∷ 4294967295 ∷ []) ∷ (30 ∷ 7 ∷ 30 ∷ 0 ∷ []) ∷ []) is 1 ∷ 11 ∷ 2 ∷ 2 ∷ 2 ∷ [])
-    ∷ (map (answerWith 0) ((30 ∷ []) ∷ (30 ∷ 0 ∷ []) ∷ []) is 2 ∷ 2 ∷ [])
-    ∷ (map (answerWith 2) ((30 ∷ 7 ∷ 30 ∷ []) ∷ (30 ∷ 7 ∷ 30 ∷ 0 ∷ []) ∷ (30 ∷ 0 ∷ 30 ∷ 7 ∷ []) ∷ []) is 1 ∷ 11 ∷ 11 ∷ [])
+    ∷ (map (answer_with 0) ((30 ∷ []) ∷ (30 ∷ 0 ∷ []) ∷ []) is 2 ∷ 2 ∷ [])
+    ∷ (map (answer_with 2) ((30 ∷ 7 ∷ 30 ∷ []) ∷ (30 ∷ 7 ∷ 30 ∷ 0 ∷ []) ∷ (30 ∷ 0 ∷ 30 ∷ 7 ∷ []) ∷ []) is 1 ∷ 11 ∷ 11 ∷ [])
     ∷ []
 
 -- Numbers between and beyond those of the table, with "the commands that 000 says should not be used (20, 21)".
-abbrev pub foreignNumbers : List ℕ
-foreignNumbers = 0 ∷ 4 ∷ 12 ∷ 15 ∷ 20 ∷ 21 ∷ 23 ∷ 24 ∷ 26 ∷ 29 ∷ 31 ∷ 32 ∷ 34 ∷ 4294967295 ∷ []
+abbrev pub foreign_numbers : List ℕ
+foreign_numbers = 0 ∷ 4 ∷ 12 ∷ 15 ∷ 20 ∷ 21 ∷ 23 ∷ 24 ∷ 26 ∷ 29 ∷ 31 ∷ 32 ∷ 34 ∷ 4294967295 ∷ []
 
 -- "Number not offered: 10.": none has a row, and a run that finds it answers 10, with its one word there and with many more behind it.
 pub record NotOfferedAny (numbers : List ℕ) : Type 0 where
   pub no_row : map kind_of numbers ≡ map (λ (x : ℕ). Foreign) numbers
-  pub not-offered : (entry Foreign).offered ≡ false
+  pub not_offered : (entry Foreign).offered ≡ false
   pub alone : map (λ (x : ℕ). answer (x ∷ [])) numbers ≡ map (λ (x : ℕ). 10) numbers
-  pub with-more : map (λ (x : ℕ). answer (x ∷ zeros 20)) numbers ≡ map (λ (x : ℕ). 10) numbers
+  pub with_more : map (λ (x : ℕ). answer (x ∷ zeros 20)) numbers ≡ map (λ (x : ℕ). 10) numbers
 
 -- ---- answer numbers: every case of every answer, with document 01's number
 
-unfoldable pub answerNumbers : List Case
-answerNumbers =
+unfoldable pub answer_numbers : List Case
+answer_numbers =
     -- register write: "taken", "lent length", "no such register / read-only / bad value / ring refused"
-    (map writeNumber (Write.Taken ∷ Write.WrongLength ∷ Write.NoRegister ∷ Write.NotWritable ∷ Write.BadValue ∷ Write.RingRefused ∷ [])
+    (map write_number (Write.Taken ∷ Write.WrongLength ∷ Write.NoRegister ∷ Write.NotWritable ∷ Write.BadValue ∷ Write.RingRefused ∷ [])
     is 0 ∷ 20 ∷ 30 ∷ 31 ∷ 32 ∷ 33 ∷ [])
     -- register read: "taken", with the value; "Reading an absent register gives 30 and value 0."
     ∷ ((reading (Value.Is 101)).answer ∷ (reading (Value.Is 101)).value ∷ (reading Value.NoRegister).answer ∷ (reading Value.NoRegister).value ∷ []
     is 0 ∷ 101 ∷ 30 ∷ 0 ∷ [])
     -- making: "taken", "M or P"
-    ∷ ((creation (Making.Made freshDevice)).answer ∷ (creation Making.Refused).answer ∷ [] is 0 ∷ 34 ∷ [])
+    ∷ ((creation (Making.Made fresh_device)).answer ∷ (creation Making.Refused).answer ∷ [] is 0 ∷ 34 ∷ [])
     -- picture: "taken", "lent length", "width·height above P"
-    ∷ (map pictureNumber (Picture.Taken ∷ Picture.WrongLength ∷ Picture.TooLarge ∷ []) is 0 ∷ 20 ∷ 24 ∷ [])
+    ∷ (map picture_number (Picture.Taken ∷ Picture.WrongLength ∷ Picture.TooLarge ∷ []) is 0 ∷ 20 ∷ 24 ∷ [])
     -- run: "drained / waiting for the rest of a command / budget spent"
-    ∷ (map runNumber (Run.Ended Drained ∷ Run.Ended Waiting ∷ Run.Spent ∷ []) is 0 ∷ 1 ∷ 2 ∷ [])
+    ∷ (map run_number (Run.Ended Drained ∷ Run.Ended Waiting ∷ Run.Spent ∷ []) is 0 ∷ 1 ∷ 2 ∷ [])
     -- run: "command not offered", "bad operand", "command longer than the ring can hold", "NEXT_CMD unusable"
-    ∷ (map (λ c. runNumber (Run.Ended (Fault c))) (NotOffered ∷ BadOperand ∷ TooLong ∷ BadNext ∷ []) is 10 ∷ 11 ∷ 12 ∷ 13 ∷ [])
+    ∷ (map (λ c. run_number (Run.Ended (Fault c))) (NotOffered ∷ BadOperand ∷ TooLong ∷ BadNext ∷ []) is 10 ∷ 11 ∷ 12 ∷ 13 ∷ [])
     -- run: "lent length", "disabled / not configured / fault already standing", "width·height above P"
-    ∷ (map runNumber (Run.WrongLength ∷ Run.Disabled ∷ Run.NotConfigured ∷ Run.FaultStands ∷ Run.TooLarge ∷ []) is 20 ∷ 21 ∷ 22 ∷ 23 ∷ 24 ∷ [])
+    ∷ (map run_number (Run.WrongLength ∷ Run.Disabled ∷ Run.NotConfigured ∷ Run.FaultStands ∷ Run.TooLarge ∷ []) is 20 ∷ 21 ∷ 22 ∷ 23 ∷ 24 ∷ [])
     -- fault: the same four numbers
-    ∷ (map causeNumber (NotOffered ∷ BadOperand ∷ TooLong ∷ BadNext ∷ []) is 10 ∷ 11 ∷ 12 ∷ 13 ∷ [])
+    ∷ (map cause_number (NotOffered ∷ BadOperand ∷ TooLong ∷ BadNext ∷ []) is 10 ∷ 11 ∷ 12 ∷ 13 ∷ [])
     -- a turn's end
-    ∷ (map endNumber (Drained ∷ Waiting ∷ Fault NotOffered ∷ Fault BadOperand ∷ Fault TooLong ∷ Fault BadNext ∷ []) is 0 ∷ 1 ∷ 10 ∷ 11 ∷ 12 ∷ 13 ∷ [])
+    ∷ (map end_number (Drained ∷ Waiting ∷ Fault NotOffered ∷ Fault BadOperand ∷ Fault TooLong ∷ Fault BadNext ∷ []) is 0 ∷ 1 ∷ 10 ∷ 11 ∷ 12 ∷ 13 ∷ [])
     -- a run in demand 3's claim, which knows no refusal but 23
-    ∷ (map answerNumber (spent ∷ standing ∷ ended Drained ∷ ended Waiting ∷ ended (Fault NotOffered) ∷ ended (Fault BadOperand) ∷ ended (Fault TooLong) ∷ [])
+    ∷ (map answer_number (spent ∷ standing ∷ ended Drained ∷ ended Waiting ∷ ended (Fault NotOffered) ∷ ended (Fault BadOperand) ∷ ended (Fault TooLong) ∷ [])
     is 2 ∷ 23 ∷ 0 ∷ 1 ∷ 10 ∷ 11 ∷ 12 ∷ [])
     -- append, which document 01's table does not have: 0 taken, 1 refused
-    ∷ (map appendNumber (Append.Taken ∷ Append.Refused ∷ []) ++ map replyNumber (appended true ∷ appended false ∷ []) is 0 ∷ 1 ∷ 0 ∷ 1 ∷ [])
+    ∷ (map append_number (Append.Taken ∷ Append.Refused ∷ []) ++ map reply_number (appended true ∷ appended false ∷ []) is 0 ∷ 1 ∷ 0 ∷ 1 ∷ [])
     ∷ []

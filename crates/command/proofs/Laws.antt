@@ -7,18 +7,18 @@ use native.Mathlib.Omega.{arith}
 use lib.ListN.{take, get_or}
 use lib.Seq.{get_or-take}
 use Rattle.execution.specs.Table.{head_of, size_of, all_of, turn_of, Laws}
-use Rattle.execution.proofs.Tables.{laws-of}
+use Rattle.execution.proofs.Tables.{laws_of}
 use Rattle.command.specs.declared.Action.{Action}
 use Rattle.command.specs.declared.Kind.{Kind}
 use Rattle.command.specs.declared.Kind.TheVariants.{Update, RectFill, RectCopy, RectRopFill, RectRopCopy, DefineAlphaCursor, UpdateVerbose, Fence, Escape, Foreign}
-use Rattle.command.specs.Commands.{Known, Entry, entry, sizeBy, kind_of, kindIn, commands}
+use Rattle.command.specs.Commands.{Known, Entry, entry, size_by, kind_of, kind_in, commands}
 
 -- ---- a row looks at its head's words
 
 -- what a row says of words
 pub record Alike (e : Entry) (w v : List ℕ) : Type 0 where
   pub behind : e.behind w ≡ e.behind v
-  pub headGood : e.headGood w ≡ e.headGood v
+  pub head_good : e.head_good w ≡ e.head_good v
   pub good : (s : Known) → e.good s w ≡ e.good s v
   pub action : e.action w ≡ e.action v
 
@@ -28,44 +28,44 @@ Begin n w v = (i : ℕ) → 1 ≤ i → i < n → get_or w i 0 ≡ get_or v i 0
 
 pub alike : (k : Kind) (w v : List ℕ) → Begin (entry k).head w v → Alike (entry k) w v
 unfolding entry
-alike Update w v b = record { behind = refl; headGood = refl; good = λ s. refl; action = rw (b 1 (omega arith) (omega arith), b 2 (omega arith) (omega arith), b 3 (omega arith) (omega arith), b 4 (omega arith) (omega arith)) }
-alike RectFill w v b = record { behind = refl; headGood = refl; good = λ s. refl; action = rw (b 1 (omega arith) (omega arith), b 2 (omega arith) (omega arith), b 3 (omega arith) (omega arith), b 4 (omega arith) (omega arith), b 5 (omega arith) (omega arith)) }
-alike RectCopy w v b = record { behind = refl; headGood = refl; good = λ s. refl; action = rw (b 1 (omega arith) (omega arith), b 2 (omega arith) (omega arith), b 3 (omega arith) (omega arith), b 4 (omega arith) (omega arith), b 5 (omega arith) (omega arith), b 6 (omega arith) (omega arith)) }
-alike RectRopFill w v b = record { behind = refl; headGood = refl; good = λ s. rw (b 6 (omega arith) (omega arith)); action = rw (b 1 (omega arith) (omega arith), b 2 (omega arith) (omega arith), b 3 (omega arith) (omega arith), b 4 (omega arith) (omega arith), b 5 (omega arith) (omega arith), b 6 (omega arith) (omega arith)) }
-alike RectRopCopy w v b = record { behind = refl; headGood = refl; good = λ s. rw (b 7 (omega arith) (omega arith)); action = rw (b 1 (omega arith) (omega arith), b 2 (omega arith) (omega arith), b 3 (omega arith) (omega arith), b 4 (omega arith) (omega arith), b 5 (omega arith) (omega arith), b 6 (omega arith) (omega arith), b 7 (omega arith) (omega arith)) }
+alike Update w v b = record { behind = refl; head_good = refl; good = λ s. refl; action = rw (b 1 (omega arith) (omega arith), b 2 (omega arith) (omega arith), b 3 (omega arith) (omega arith), b 4 (omega arith) (omega arith)) }
+alike RectFill w v b = record { behind = refl; head_good = refl; good = λ s. refl; action = rw (b 1 (omega arith) (omega arith), b 2 (omega arith) (omega arith), b 3 (omega arith) (omega arith), b 4 (omega arith) (omega arith), b 5 (omega arith) (omega arith)) }
+alike RectCopy w v b = record { behind = refl; head_good = refl; good = λ s. refl; action = rw (b 1 (omega arith) (omega arith), b 2 (omega arith) (omega arith), b 3 (omega arith) (omega arith), b 4 (omega arith) (omega arith), b 5 (omega arith) (omega arith), b 6 (omega arith) (omega arith)) }
+alike RectRopFill w v b = record { behind = refl; head_good = refl; good = λ s. rw (b 6 (omega arith) (omega arith)); action = rw (b 1 (omega arith) (omega arith), b 2 (omega arith) (omega arith), b 3 (omega arith) (omega arith), b 4 (omega arith) (omega arith), b 5 (omega arith) (omega arith), b 6 (omega arith) (omega arith)) }
+alike RectRopCopy w v b = record { behind = refl; head_good = refl; good = λ s. rw (b 7 (omega arith) (omega arith)); action = rw (b 1 (omega arith) (omega arith), b 2 (omega arith) (omega arith), b 3 (omega arith) (omega arith), b 4 (omega arith) (omega arith), b 5 (omega arith) (omega arith), b 6 (omega arith) (omega arith), b 7 (omega arith) (omega arith)) }
 alike DefineAlphaCursor w v b = record {
   behind = rw (b 4 (omega arith) (omega arith), b 5 (omega arith) (omega arith));
-  headGood = rw (b 1 (omega arith) (omega arith), b 2 (omega arith) (omega arith), b 3 (omega arith) (omega arith), b 4 (omega arith) (omega arith), b 5 (omega arith) (omega arith));
+  head_good = rw (b 1 (omega arith) (omega arith), b 2 (omega arith) (omega arith), b 3 (omega arith) (omega arith), b 4 (omega arith) (omega arith), b 5 (omega arith) (omega arith));
   good = λ s. refl;
   action = rw (b 1 (omega arith) (omega arith), b 2 (omega arith) (omega arith), b 3 (omega arith) (omega arith), b 4 (omega arith) (omega arith), b 5 (omega arith) (omega arith));
 }
-alike UpdateVerbose w v b = record { behind = refl; headGood = refl; good = λ s. refl; action = rw (b 1 (omega arith) (omega arith), b 2 (omega arith) (omega arith), b 3 (omega arith) (omega arith), b 4 (omega arith) (omega arith)) }
-alike Fence w v b = record { behind = refl; headGood = refl; good = λ s. rw (b 1 (omega arith) (omega arith)); action = rw (b 1 (omega arith) (omega arith)) }
-alike Escape w v b = record { behind = rw (b 2 (omega arith) (omega arith)); headGood = refl; good = λ s. refl; action = refl }
-alike Foreign w v b = record { behind = refl; headGood = refl; good = λ s. refl; action = refl }
+alike UpdateVerbose w v b = record { behind = refl; head_good = refl; good = λ s. refl; action = rw (b 1 (omega arith) (omega arith), b 2 (omega arith) (omega arith), b 3 (omega arith) (omega arith), b 4 (omega arith) (omega arith)) }
+alike Fence w v b = record { behind = refl; head_good = refl; good = λ s. rw (b 1 (omega arith) (omega arith)); action = rw (b 1 (omega arith) (omega arith)) }
+alike Escape w v b = record { behind = rw (b 2 (omega arith) (omega arith)); head_good = refl; good = λ s. refl; action = refl }
+alike Foreign w v b = record { behind = refl; head_good = refl; good = λ s. refl; action = refl }
 
-pub head-some : (k : Kind) → (1 ≤ (entry k).head) × ((entry k).head ≤ 10)
+pub head_some : (k : Kind) → (1 ≤ (entry k).head) × ((entry k).head ≤ 10)
 unfolding entry
-head-some Update = (omega arith, omega arith)
-head-some RectFill = (omega arith, omega arith)
-head-some RectCopy = (omega arith, omega arith)
-head-some RectRopFill = (omega arith, omega arith)
-head-some RectRopCopy = (omega arith, omega arith)
-head-some DefineAlphaCursor = (omega arith, omega arith)
-head-some UpdateVerbose = (omega arith, omega arith)
-head-some Fence = (omega arith, omega arith)
-head-some Escape = (omega arith, omega arith)
-head-some Foreign = (omega arith, omega arith)
+head_some Update = (omega arith, omega arith)
+head_some RectFill = (omega arith, omega arith)
+head_some RectCopy = (omega arith, omega arith)
+head_some RectRopFill = (omega arith, omega arith)
+head_some RectRopCopy = (omega arith, omega arith)
+head_some DefineAlphaCursor = (omega arith, omega arith)
+head_some UpdateVerbose = (omega arith, omega arith)
+head_some Fence = (omega arith, omega arith)
+head_some Escape = (omega arith, omega arith)
+head_some Foreign = (omega arith, omega arith)
 
 -- ---- the table by its rows
 
 module _ {S : Type 0} (known_of : S → Known) (does : Action → List ℕ → S → S) where
   -- what demand 3's theorem asks of a table: the ring carries every head, and a command has a word
-  pub command-laws : (cap : ℕ) → 10 ≤ cap → Laws cap (turn_of cap (commands known_of does))
+  pub command_laws : (cap : ℕ) → 10 ≤ cap → Laws cap (turn_of cap (commands known_of does))
   unfolding commands
-  command-laws cap h = laws-of cap (commands known_of does) (record {
-    head-fits = λ x e. omega (arith, (head-some (kind_of x)).1);
-    size-some = λ w. omega (arith, (head-some (kindIn w)).0);
+  command_laws cap h = laws_of cap (commands known_of does) (record {
+    head_fits = λ x e. omega (arith, (head_some (kind_of x)).1);
+    size_some = λ w. omega (arith, (head_some (kind_in w)).0);
   })
 
   module _ (x : ℕ) (w : List ℕ) (first : get_or w 0 0 ≡ x) where
@@ -73,35 +73,35 @@ module _ {S : Type 0} (known_of : S → Known) (does : Action → List ℕ → S
     row = entry (kind_of x)
 
     -- the first n words are of the same kind
-    kind-take : (n : ℕ) → 1 ≤ n → kindIn (take n w) ≡ kind_of x
-    kind-take n h = ap kind_of (get_or-take n w 0 0 (omega arith) ∙ first)
+    kind_take : (n : ℕ) → 1 ≤ n → kind_in (take n w) ≡ kind_of x
+    kind_take n h = ap kind_of (get_or-take n w 0 0 (omega arith) ∙ first)
 
     -- checks and length by a command's own words are those by all the words there
     module _ (n : ℕ) (long : row.head ≤ n) where
       own : Alike row (take n w) w
       own = alike (kind_of x) (take n w) w (λ i g h. get_or-take n w i 0 (omega arith))
 
-      same_kind : kindIn (take n w) ≡ kind_of x
-      same_kind = kind-take n (omega (arith, (head-some (kind_of x)).0))
+      same_kind : kind_in (take n w) ≡ kind_of x
+      same_kind = kind_take n (omega (arith, (head_some (kind_of x)).0))
 
-    good-all : (s : S) → (commands known_of does).good s (take (sizeBy (kind_of x) w) w) ≡ row.good (known_of s) w
+    good_all : (s : S) → (commands known_of does).good s (take (size_by (kind_of x) w) w) ≡ row.good (known_of s) w
     unfolding commands
-    good-all s = rw (same_kind (sizeBy (kind_of x) w) (omega arith)) ((own (sizeBy (kind_of x) w) (omega arith)).good (known_of s))
+    good_all s = rw (same_kind (size_by (kind_of x) w) (omega arith)) ((own (size_by (kind_of x) w) (omega arith)).good (known_of s))
 
-    effect-all : (s : S) → (commands known_of does).effect s (take (sizeBy (kind_of x) w) w) ≡ does (row.action w) (take (sizeBy (kind_of x) w) w) s
+    effect_all : (s : S) → (commands known_of does).effect s (take (size_by (kind_of x) w) w) ≡ does (row.action w) (take (size_by (kind_of x) w) w) s
     unfolding commands
-    effect-all s = rw (same_kind (sizeBy (kind_of x) w) (omega arith)) (ap (λ (a : Action). does a (take (sizeBy (kind_of x) w) w) s) (own (sizeBy (kind_of x) w) (omega arith)).action)
+    effect_all s = rw (same_kind (size_by (kind_of x) w) (omega arith)) (ap (λ (a : Action). does a (take (size_by (kind_of x) w) w) s) (own (size_by (kind_of x) w) (omega arith)).action)
 
-    pub by-head : ((commands known_of does).headGood (head_of (commands known_of does) x w) ≡ row.headGood w)
+    pub by_head : ((commands known_of does).head_good (head_of (commands known_of does) x w) ≡ row.head_good w)
     unfolding commands
-    by-head = rw (same_kind row.head (omega arith)) (own row.head (omega arith)).headGood
+    by_head = rw (same_kind row.head (omega arith)) (own row.head (omega arith)).head_good
 
-    pub by_size : size_of (commands known_of does) x w ≡ sizeBy (kind_of x) w
+    pub by_size : size_of (commands known_of does) x w ≡ size_by (kind_of x) w
     unfolding commands
     by_size = rw (same_kind row.head (omega arith)) (ap (λ n. row.head + n) (own row.head (omega arith)).behind)
 
-    pub by-good : (s : S) → (commands known_of does).good s (all_of (commands known_of does) x w) ≡ row.good (known_of s) w
-    by-good s = rw by_size (good-all s)
+    pub by_good : (s : S) → (commands known_of does).good s (all_of (commands known_of does) x w) ≡ row.good (known_of s) w
+    by_good s = rw by_size (good_all s)
 
-    pub by-effect : (s : S) → (commands known_of does).effect s (all_of (commands known_of does) x w) ≡ does (row.action w) (take (sizeBy (kind_of x) w) w) s
-    by-effect s = rw by_size (effect-all s)
+    pub by_effect : (s : S) → (commands known_of does).effect s (all_of (commands known_of does) x w) ≡ does (row.action w) (take (size_by (kind_of x) w) w) s
+    by_effect s = rw by_size (effect_all s)

@@ -2,7 +2,7 @@
 use Rattle.std.specs.Prelude.{ℕ, ◌+◌, ◌*◌, ◌/◌, Bool, true, false, cond, not, List, [], ◌∷◌, eqb, leb, get_or}
 use Rattle.geometry.specs.declared.Rect.{Rect}
 use Rattle.cursor.specs.declared.Shape.{Shape}
-use Rattle.cursor.specs.Plane.{shapeGood}
+use Rattle.cursor.specs.Plane.{shape_good}
 use Rattle.execution.specs.Table.{Table}
 use Rattle.command.specs.declared.Source.{Source}
 use Rattle.command.specs.declared.Kind.{Kind}
@@ -23,17 +23,17 @@ pub record Entry : Type 0 where
   pub head : ℕ
   pub behind : List ℕ → ℕ
   -- the turn's checks: on the words of its head; on all its words and what is known of the machine
-  pub headGood : List ℕ → Bool
+  pub head_good : List ℕ → Bool
   pub good : Known → List ℕ → Bool
   -- the column "Arguments": what is executed
   pub action : List ℕ → Action
 
 -- Arguments that stand together, from word i on: "x y w h", "sx sy", "id hotx hoty w h".
-abbrev pub rectAt : List ℕ → ℕ → Rect
-rectAt w i = record { x = get_or w i 0; y = get_or w (i + 1) 0; w = get_or w (i + 2) 0; h = get_or w (i + 3) 0 }
+abbrev pub rect_at : List ℕ → ℕ → Rect
+rect_at w i = record { x = get_or w i 0; y = get_or w (i + 1) 0; w = get_or w (i + 2) 0; h = get_or w (i + 3) 0 }
 
-abbrev pub sourceAt : List ℕ → ℕ → Source
-sourceAt w i = record { x = get_or w i 0; y = get_or w (i + 1) 0 }
+abbrev pub source_at : List ℕ → ℕ → Source
+source_at w i = record { x = get_or w i 0; y = get_or w (i + 1) 0 }
 
 abbrev pub shape_at : List ℕ → ℕ → Shape
 shape_at w i = record { id = get_or w i 0; hotx = get_or w (i + 1) 0; hoty = get_or w (i + 2) 0; w = get_or w (i + 3) 0; h = get_or w (i + 4) 0 }
@@ -49,7 +49,7 @@ fixed number words action = record {
   offered = true;
   head = words;
   behind = λ w. 0;
-  headGood = λ w. true;
+  head_good = λ w. true;
   good = λ s w. true;
   action = action;
 }
@@ -61,7 +61,7 @@ checked number words good action = record {
   offered = true;
   head = words;
   behind = λ w. 0;
-  headGood = λ w. true;
+  head_good = λ w. true;
   good = λ s w. good w;
   action = action;
 }
@@ -77,7 +77,7 @@ followed number words behind good action = record {
   offered = true;
   head = words;
   behind = behind;
-  headGood = good;
+  head_good = good;
   good = λ s w. true;
   action = action;
 }
@@ -86,37 +86,37 @@ followed number words behind good action = record {
 -- raster check". A plain fill or copy is operation 3; UPDATE_VERBOSE is "as 1, reason (no effect)";
 -- ESCAPE's "data (no effect)". Any other number is not offered: no row, and its one word is never looked at further.
 unfoldable pub entry : Kind → Entry
-entry Update = fixed 1 5 (λ w. A.Update (rectAt w 1))
-entry RectFill = fixed 2 6 (λ w. A.Fill (rectAt w 2) (get_or w 1 0) plain)
-entry RectCopy = fixed 3 7 (λ w. A.Copy (sourceAt w 1) (rectAt w 3) plain)
-entry RectRopFill = operated 13 7 6 (λ w. A.Fill (rectAt w 2) (get_or w 1 0) (get_or w 6 0))
-entry RectRopCopy = operated 14 8 7 (λ w. A.Copy (sourceAt w 1) (rectAt w 3) (get_or w 7 0))
-entry DefineAlphaCursor = followed 22 6 (λ w. (shape_at w 1).w * (shape_at w 1).h) (λ w. shapeGood (shape_at w 1)) (λ w. A.Define (shape_at w 1))
-entry UpdateVerbose = fixed 25 6 (λ w. A.Update (rectAt w 1))
+entry Update = fixed 1 5 (λ w. A.Update (rect_at w 1))
+entry RectFill = fixed 2 6 (λ w. A.Fill (rect_at w 2) (get_or w 1 0) plain)
+entry RectCopy = fixed 3 7 (λ w. A.Copy (source_at w 1) (rect_at w 3) plain)
+entry RectRopFill = operated 13 7 6 (λ w. A.Fill (rect_at w 2) (get_or w 1 0) (get_or w 6 0))
+entry RectRopCopy = operated 14 8 7 (λ w. A.Copy (source_at w 1) (rect_at w 3) (get_or w 7 0))
+entry DefineAlphaCursor = followed 22 6 (λ w. (shape_at w 1).w * (shape_at w 1).h) (λ w. shape_good (shape_at w 1)) (λ w. A.Define (shape_at w 1))
+entry UpdateVerbose = fixed 25 6 (λ w. A.Update (rect_at w 1))
 entry Fence = checked 30 2 (λ w. not (eqb (get_or w 1 0) 0)) (λ w. A.Fence (get_or w 1 0))
 entry Escape = followed 33 3 (λ w. (get_or w 2 0 + 3) / 4) (λ w. true) (λ w. A.Nothing)
-entry Foreign = record { number = 0; offered = false; head = 1; behind = λ w. 0; headGood = λ w. true; good = λ s w. true; action = λ w. A.Nothing }
+entry Foreign = record { number = 0; offered = false; head = 1; behind = λ w. 0; head_good = λ w. true; good = λ s w. true; action = λ w. A.Nothing }
 
 -- "head 6, then w·h", "head 3, then ceil(size/4)": all words of a command that begins so.
-abbrev pub sizeBy : Kind → List ℕ → ℕ
-sizeBy k w = (entry k).head + (entry k).behind w
+abbrev pub size_by : Kind → List ℕ → ℕ
+size_by k w = (entry k).head + (entry k).behind w
 
 -- The rows, in document 01's order.
 abbrev pub kinds : List Kind
 kinds = Update ∷ RectFill ∷ RectCopy ∷ RectRopFill ∷ RectRopCopy ∷ DefineAlphaCursor ∷ UpdateVerbose ∷ Fence ∷ Escape ∷ []
 
 -- The row that has a number.
-abbrev pub rowWith : ℕ → List Kind → Kind
-rowWith number [] = Foreign
-rowWith number (k ∷ ks) = cond (eqb number (entry k).number) k (rowWith number ks)
+abbrev pub row_with : ℕ → List Kind → Kind
+row_with number [] = Foreign
+row_with number (k ∷ ks) = cond (eqb number (entry k).number) k (row_with number ks)
 
 unfoldable pub kind_of : ℕ → Kind
 unfolding entry
-kind_of number = rowWith number kinds
+kind_of number = row_with number kinds
 
 -- The kind of the command that words begin with.
-abbrev pub kindIn : List ℕ → Kind
-kindIn w = kind_of (get_or w 0 0)
+abbrev pub kind_in : List ℕ → Kind
+kind_in w = kind_of (get_or w 0 0)
 
 -- The rows as the table that straight execution goes by. What the checks know of a machine and what an action does to it are parameters: an action is
 -- done with the command's own words.
@@ -125,8 +125,8 @@ module _ {S : Type 0} (known_of : S → Known) (does : Action → List ℕ → S
   commands = record {
     offered = λ x. (entry (kind_of x)).offered;
     head = λ x. (entry (kind_of x)).head;
-    headGood = λ h. (entry (kindIn h)).headGood h;
-    size = λ h. sizeBy (kindIn h) h;
-    good = λ s w. (entry (kindIn w)).good (known_of s) w;
-    effect = λ s w. does ((entry (kindIn w)).action w) w s;
+    head_good = λ h. (entry (kind_in h)).head_good h;
+    size = λ h. size_by (kind_in h) h;
+    good = λ s w. (entry (kind_in w)).good (known_of s) w;
+    effect = λ s w. does ((entry (kind_in w)).action w) w s;
   }

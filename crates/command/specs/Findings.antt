@@ -14,26 +14,26 @@ use Rattle.command.specs.declared.Step.{Step}
 use Rattle.command.specs.declared.Step.TheVariants.{Does, Short, Faults, Long}
 use Rattle.command.specs.declared.Finding.{Finding}
 use Rattle.command.specs.declared.Finding.TheVariants.{Ends, Executes}
-use Rattle.command.specs.Commands.{Known, entry, kindIn, commands}
+use Rattle.command.specs.Commands.{Known, entry, kind_in, commands}
 
 -- The table over machines that only keep the action executed last.
 abbrev pub findings : Known → Table (Option Action)
 findings known = commands (λ s. known) (λ a w s. some a)
 
 -- What a turn finds on these words, in a ring that carries cap words.
-abbrev pub findsIn : Known → ℕ → List ℕ → Turn (Option Action)
-findsIn known cap w = turn_of cap (findings known) none w
+abbrev pub finds_in : Known → ℕ → List ℕ → Turn (Option Action)
+finds_in known cap w = turn_of cap (findings known) none w
 
 -- The turn on a machine s where that is found on the words w.
-abbrev pub onMachine : {S : Type 0} → (Action → List ℕ → S → S) → S → List ℕ → Turn (Option Action) → Turn S
-onMachine does s w (ends e) = ends e
-onMachine does s w (exec n none) = ends Drained
-onMachine does s w (exec n (some a)) = exec n (does a (take n w) s)
+abbrev pub on_machine : {S : Type 0} → (Action → List ℕ → S → S) → S → List ℕ → Turn (Option Action) → Turn S
+on_machine does s w (ends e) = ends e
+on_machine does s w (exec n none) = ends Drained
+on_machine does s w (exec n (some a)) = exec n (does a (take n w) s)
 
 -- What the code answers, as a turn.
-abbrev pub asTurn : Finding → Turn (Option Action)
-asTurn (Ends e) = ends e
-asTurn (Executes a n) = exec n (some a)
+abbrev pub as_turn : Finding → Turn (Option Action)
+as_turn (Ends e) = ends e
+as_turn (Executes a n) = exec n (some a)
 
 -- ---- a row of words
 
@@ -51,27 +51,27 @@ data_of Escape = some D.Escape
 data_of Foreign = none
 
 -- A turn on a row of words as a step: where it waits, or has no words, the row is short.
-abbrev pub stepBy : Turn (Option Action) → Step
-stepBy (ends Drained) = Short
-stepBy (ends Waiting) = Short
-stepBy (ends (Fault c)) = Faults c
-stepBy (exec n none) = Short
-stepBy (exec n (some a)) = Does a n
+abbrev pub step_by : Turn (Option Action) → Step
+step_by (ends Drained) = Short
+step_by (ends Waiting) = Short
+step_by (ends (Fault c)) = Faults c
+step_by (exec n none) = Short
+step_by (exec n (some a)) = Does a n
 
 -- What the front of a row of words says. A command with data behind its head is only named: its data need not lie in the row.
-abbrev pub stepFor : Known → Option Data → List ℕ → Step
-stepFor known none row = stepBy (findsIn known (length row) row)
-stepFor known (some behind) row = Long behind
+abbrev pub step_for : Known → Option Data → List ℕ → Step
+step_for known none row = step_by (finds_in known (length row) row)
+step_for known (some behind) row = Long behind
 
-unfoldable pub stepIn : Known → List ℕ → Step
-stepIn known row = stepFor known (data_of (kindIn row)) row
+unfoldable pub step_in : Known → List ℕ → Step
+step_in known row = step_for known (data_of (kind_in row)) row
 
 -- ---- a command with data behind its head
 
-abbrev pub kindWith : Data → Kind
-kindWith D.Cursor = DefineAlphaCursor
-kindWith D.Escape = Escape
+abbrev pub kind_with : Data → Kind
+kind_with D.Cursor = DefineAlphaCursor
+kind_with D.Escape = Escape
 
 -- n words that begin with its number and the arguments of a head, 0 behind them: a turn looks at no word behind a head.
 unfoldable pub begun : Data → List ℕ → ℕ → List ℕ
-begun behind head n = tabulate n (λ i. cond (eqb i 0) (entry (kindWith behind)).number (get_or head i 0))
+begun behind head n = tabulate n (λ i. cond (eqb i 0) (entry (kind_with behind)).number (get_or head i 0))

@@ -1,9 +1,9 @@
 // Document 01's nine commands: their numbers, and what a turn finds in words that begin with one. Needs no ring, device or screen.
 ghost use Rattle.std.specs.Prelude.{◌≡◌, ◌+◌, ◌≤◌, length, get_or};
-ghost use Rattle.command.specs.Commands.{entry, kind_of, kindIn, rectAt, sourceAt, shape_at};
+ghost use Rattle.command.specs.Commands.{entry, kind_of, kind_in, rect_at, source_at, shape_at};
 ghost use Rattle.command.specs.declared.Kind.TheVariants.{Update, RectFill, RectCopy, RectRopFill, RectRopCopy, UpdateVerbose, Fence};
 ghost use Rattle.command.specs.declared.Data.TheVariants.{Cursor, Escape};
-ghost use Rattle.command.specs.Findings.{findsIn, asTurn, begun, stepIn};
+ghost use Rattle.command.specs.Findings.{finds_in, as_turn, begun, step_in};
 
 use cursor::Shape;
 use execution::{Cause, End};
@@ -108,7 +108,7 @@ pub fn head_words(kind: Kind) -> usize
 // Four words from word k on, as a rectangle.
 fn rect_at(row: &[u32], k: usize) -> Rect
     requires { k + 4 ≤ length row.now }
-    ensures { result ≡ rectAt row.now k }
+    ensures { result ≡ rect_at row.now k }
 {
     Rect {
         x: row[k],
@@ -120,7 +120,7 @@ fn rect_at(row: &[u32], k: usize) -> Rect
 
 fn source_at(row: &[u32], k: usize) -> Source
     requires { k + 2 ≤ length row.now }
-    ensures { result ≡ sourceAt row.now k }
+    ensures { result ≡ source_at row.now k }
 {
     Source {
         x: row[k],
@@ -129,8 +129,8 @@ fn source_at(row: &[u32], k: usize) -> Source
 }
 
 fn update_in(row: &[u32]) -> Step
-    requires { kindIn row.now ≡ Update }
-    ensures { result ≡ stepIn tt row.now }
+    requires { kind_in row.now ≡ Update }
+    ensures { result ≡ step_in tt row.now }
 {
     if row.len() < 5 {
         return Step::Short;
@@ -139,8 +139,8 @@ fn update_in(row: &[u32]) -> Step
 }
 
 fn verbose_in(row: &[u32]) -> Step
-    requires { kindIn row.now ≡ UpdateVerbose }
-    ensures { result ≡ stepIn tt row.now }
+    requires { kind_in row.now ≡ UpdateVerbose }
+    ensures { result ≡ step_in tt row.now }
 {
     if row.len() < 6 {
         return Step::Short;
@@ -149,8 +149,8 @@ fn verbose_in(row: &[u32]) -> Step
 }
 
 fn fill_in(row: &[u32]) -> Step
-    requires { kindIn row.now ≡ RectFill }
-    ensures { result ≡ stepIn tt row.now }
+    requires { kind_in row.now ≡ RectFill }
+    ensures { result ≡ step_in tt row.now }
 {
     if row.len() < 6 {
         return Step::Short;
@@ -159,8 +159,8 @@ fn fill_in(row: &[u32]) -> Step
 }
 
 fn copy_in(row: &[u32]) -> Step
-    requires { kindIn row.now ≡ RectCopy }
-    ensures { result ≡ stepIn tt row.now }
+    requires { kind_in row.now ≡ RectCopy }
+    ensures { result ≡ step_in tt row.now }
 {
     if row.len() < 7 {
         return Step::Short;
@@ -169,8 +169,8 @@ fn copy_in(row: &[u32]) -> Step
 }
 
 fn rop_fill_in(row: &[u32]) -> Step
-    requires { kindIn row.now ≡ RectRopFill }
-    ensures { result ≡ stepIn tt row.now }
+    requires { kind_in row.now ≡ RectRopFill }
+    ensures { result ≡ step_in tt row.now }
 {
     if row.len() < 7 {
         return Step::Short;
@@ -183,8 +183,8 @@ fn rop_fill_in(row: &[u32]) -> Step
 }
 
 fn rop_copy_in(row: &[u32]) -> Step
-    requires { kindIn row.now ≡ RectRopCopy }
-    ensures { result ≡ stepIn tt row.now }
+    requires { kind_in row.now ≡ RectRopCopy }
+    ensures { result ≡ step_in tt row.now }
 {
     if row.len() < 8 {
         return Step::Short;
@@ -197,8 +197,8 @@ fn rop_copy_in(row: &[u32]) -> Step
 }
 
 fn fence_in(row: &[u32]) -> Step
-    requires { kindIn row.now ≡ Fence }
-    ensures { result ≡ stepIn tt row.now }
+    requires { kind_in row.now ≡ Fence }
+    ensures { result ≡ step_in tt row.now }
 {
     if row.len() < 2 {
         return Step::Short;
@@ -213,7 +213,7 @@ fn fence_in(row: &[u32]) -> Step
 // The one dispatch: what the front of a row of words says. Only the words of the command's own head are read.
 // Rules out: a raster operation or a fence of 0 judged before all words are there; a foreign number that waits; a plain copy by another operation than 3.
 pub fn step_in(row: &[u32]) -> Step
-    ensures { result ≡ stepIn tt row.now }
+    ensures { result ≡ step_in tt row.now }
 {
     if row.len() == 0 {
         return Step::Short;
@@ -259,7 +259,7 @@ fn shape_in(head: &[u32]) -> Shape
 
 fn cursor_turn(head: &[u32], n: u64, carries: u64) -> Finding
     requires { 1 ≤ n }
-    ensures { asTurn result ≡ findsIn tt carries (begun Cursor head.now n) }
+    ensures { as_turn result ≡ finds_in tt carries (begun Cursor head.now n) }
 {
     if n < 6 {
         return Finding::Ends(End::Waiting);
@@ -281,7 +281,7 @@ fn cursor_turn(head: &[u32], n: u64, carries: u64) -> Finding
 
 fn escape_turn(head: &[u32], n: u64, carries: u64) -> Finding
     requires { 1 ≤ n }
-    ensures { asTurn result ≡ findsIn tt carries (begun Escape head.now n) }
+    ensures { as_turn result ≡ finds_in tt carries (begun Escape head.now n) }
 {
     if n < 3 {
         return Finding::Ends(End::Waiting);
@@ -300,7 +300,7 @@ fn escape_turn(head: &[u32], n: u64, carries: u64) -> Finding
 // What a turn finds in n words that begin with a head of a command with such data. The ring carries so many words.
 // Rules out: waiting for ever on a command longer than the ring; a bad cursor that waits for its pixels.
 pub fn data_turn(tail: Data, head: &[u32], n: u64, carries: u64) -> Finding
-    ensures { asTurn result ≡ findsIn tt carries (begun tail head.now n) }
+    ensures { as_turn result ≡ finds_in tt carries (begun tail head.now n) }
 {
     if n == 0 {
         return Finding::Ends(End::Drained);

@@ -1,9 +1,9 @@
 // The console: reads requests from standard input, a line each, and prints the answers. What is read and what is printed
 // is `console_session`'s; here are the calls of read and write.
 ghost use Rattle.std.specs.Prelude.{◌≤◌, ◌≡◌, ◌&&◌, ltb, length, take};
-ghost use Rattle.device_run.specs.Run.{lentBefore, lentAfter};
+ghost use Rattle.device_run.specs.Run.{lent_before, lent_after};
 ghost use Rattle.console_answers.specs.Put.{put_at};
-ghost use Rattle.console_session.specs.Session.{stateBefore, stateAfter, unprinted, fedAll, ended, flushed, Within, HasRoom, Served};
+ghost use Rattle.console_session.specs.Session.{state_before, state_after, unprinted, fed_all, ended, flushed, Within, HasRoom, Served};
 
 use console_session::{PIXELS, RING_WORDS, Session, Start};
 use cursor::IMAGE_WORDS;
@@ -53,8 +53,8 @@ fn turn(
     out: &mut [u8],
 ) -> Step
     requires { Within s (length buffer.old) (length line.old) (length out.old) }
-    ensures out_value { stateAfter result.session line (lentAfter ring framebuffer screen cursor) out
-        ≡ flushed (fedAll (stateBefore s line (lentBefore ring framebuffer screen cursor) out) (take result.read buffer.new)) }
+    ensures out_value { state_after result.session line (lent_after ring framebuffer screen cursor) out
+        ≡ flushed (fed_all (state_before s line (lent_before ring framebuffer screen cursor) out) (take result.read buffer.new)) }
     ensures has_room { HasRoom result.session (length buffer.old) line out }
 {
     let n = fill(buffer);
@@ -92,8 +92,8 @@ fn serve(
     out: &mut [u8],
 ) -> Session
     requires { Within s (length buffer.old) (length line.old) (length out.old) }
-    ensures served { Served (stateBefore s line (lentBefore ring framebuffer screen cursor) out)
-        (stateAfter result line (lentAfter ring framebuffer screen cursor) out) }
+    ensures served { Served (state_before s line (lent_before ring framebuffer screen cursor) out)
+        (state_after result line (lent_after ring framebuffer screen cursor) out) }
     ensures has_room { HasRoom result (length buffer.old) line out }
 {
     let mut session = s;
@@ -127,10 +127,10 @@ fn end(
     out: &mut [u8],
 )
     requires { Within s 1 (length line.now) (length out.old) }
-    ensures cursor_value { lentAfter ring framebuffer screen cursor
-        ≡ (ended (stateBefore s line (lentBefore ring framebuffer screen cursor) out)).console.lent }
+    ensures cursor_value { lent_after ring framebuffer screen cursor
+        ≡ (ended (state_before s line (lent_before ring framebuffer screen cursor) out)).console.lent }
     ensures out_after { out.new
-        ≡ put_at out.old s.printed (ended (unprinted s line (lentBefore ring framebuffer screen cursor))).printed }
+        ≡ put_at out.old s.printed (ended (unprinted s line (lent_before ring framebuffer screen cursor))).printed }
 {
     let ended = console_session::finish(s, line, ring, framebuffer, screen, cursor, out);
     write_out(out, ended.printed);

@@ -19,19 +19,19 @@ module _ (before : List ℕ) (at : ℕ) (text : List ℕ) where
   ends_there : at ≤ length before → length (take at before ++ text) ≡ at + length text
   ends_there h = omega (arith, length-append (take at before) text, length-take-le at before h)
 
-  ends-before : length (take at before ++ text) ≤ at + length text
-  ends-before = omega (arith, length-append (take at before) text, length-take at before)
+  ends_before : length (take at before ++ text) ≤ at + length text
+  ends_before = omega (arith, length-append (take at before) text, length-take at before)
 
   -- beyond the buffer
-  nothing-behind : length before < at → put_at before at text ≡ take at before ++ text
-  nothing-behind h =
+  nothing_behind : length before < at → put_at before at text ≡ take at before ++ text
+  nothing_behind h =
       let end : length before ≤ at + length text = omega arith in rw (drop_of_length-le before end) (append-nil (take at before ++ text))
 
   up_to : take (at + length text) (put_at before at text) ≡ take at before ++ text
   up_to =
       cases (leb at (length before))
       (λ t. take_at (take at before ++ text) (drop (at + length text) before) (at + length text) (ends_there (leb-true _ _ t)))
-      (λ t. rw (nothing-behind (leb-false _ _ t)) (take_all _ _ ends-before))
+      (λ t. rw (nothing_behind (leb-false _ _ t)) (take_all _ _ ends_before))
 
   behind : drop (at + length text) (put_at before at text) ≡ drop (at + length text) before
   behind =
@@ -39,13 +39,13 @@ module _ (before : List ℕ) (at : ℕ) (text : List ℕ) where
       (λ t. drop_at (take at before ++ text) (drop (at + length text) before) (at + length text) (ends_there (leb-true _ _ t)))
       (λ t. let beyond : length before < at = leb-false _ _ t in
       let end : length before ≤ at + length text = omega arith in
-      rw (nothing-behind beyond) (drop_of_length-le _ ends-before ∙ sym (drop_of_length-le before end)))
+      rw (nothing_behind beyond) (drop_of_length-le _ ends_before ∙ sym (drop_of_length-le before end)))
 
 pub put_one : (out : List ℕ) (at b : ℕ) → at < length out → Put out at (b ∷ []) (set out at b) (at + 1)
 put_one out at b h = record { bytes = rw (add-one, append_snoc) (set_split out at b h); ends = omega arith }
 
-pub put-none : (out : List ℕ) (at : ℕ) → Put out at [] out at
-put-none out at = record { bytes = rw (append-nil, add-zero) (sym (take-append-drop at out)); ends = omega arith }
+pub put_none : (out : List ℕ) (at : ℕ) → Put out at [] out at
+put_none out at = record { bytes = rw (append-nil, add-zero) (sym (take-append-drop at out)); ends = omega arith }
 
 -- What is put in two parts.
 pub put_then : {a b c t u : List ℕ} {at mid end : ℕ} → Put a at t b mid → Put b mid u c end → Put a at (t ++ u) c end
@@ -60,9 +60,9 @@ put_then {a} {b} {c} {t} {u} {at} p q = record {
 -- ---- for callers
 
 -- The buffer up to the text's end.
-pub put-taken : {before after text : List ℕ} {at end : ℕ} → Put before at text after end → take end after ≡ take at before ++ text
-put-taken {before} {after} {text} {at} p = rw (p.bytes, p.ends) (up_to before at text)
+pub put_taken : {before after text : List ℕ} {at end : ℕ} → Put before at text after end → take end after ≡ take at before ++ text
+put_taken {before} {after} {text} {at} p = rw (p.bytes, p.ends) (up_to before at text)
 
 -- Where nothing is put the buffer stays.
-pub put-nothing : {before after : List ℕ} {at end : ℕ} → Put before at [] after end → after ≡ before
-put-nothing {before} {after} {at} p = p.bytes ∙ rw (append-nil, add-zero) (take-append-drop at before)
+pub put_nothing : {before after : List ℕ} {at end : ℕ} → Put before at [] after end → after ≡ before
+put_nothing {before} {after} {at} p = p.bytes ∙ rw (append-nil, add-zero) (take-append-drop at before)

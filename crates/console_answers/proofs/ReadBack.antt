@@ -12,53 +12,53 @@ use lib.ListN.{length, length-append}
 use borrow.Author.Tests.{ltb-true, ltb-false, le-leb}
 use borrow.Table.Steps.{cases}
 use Rattle.console_lines.specs.Lines.{digits, decimal, number_of}
-use Rattle.console_answers.specs.Text.{decimalIn, decimalOf}
-use Rattle.console_answers.proofs.Decimal.{decimal-short}
+use Rattle.console_answers.specs.Text.{decimal_in, decimal_of}
+use Rattle.console_answers.proofs.Decimal.{decimal_short}
 
-decimal-behind : (n d : ℕ) (l : List ℕ) → decimal n (l ++ (d ∷ [])) ≡ decimal n l * 10 + (d - 48)
+decimal_behind : (n d : ℕ) (l : List ℕ) → decimal n (l ++ (d ∷ [])) ≡ decimal n l * 10 + (d - 48)
 unfolding decimal
-decimal-behind n d [] = refl
-decimal-behind n d (b ∷ l) = decimal-behind (n * 10 + (b - 48)) d l
+decimal_behind n d [] = refl
+decimal_behind n d (b ∷ l) = decimal_behind (n * 10 + (b - 48)) d l
 
-last-of-three : (t u v w : Bool) → t && (u && v) ≡ true → (v ≡ true → w ≡ true) → t && (u && w) ≡ true
-last-of-three true true v w e f = f e
-last-of-three true false v w e f = e
-last-of-three false u v w e f = e
+last_of_three : (t u v w : Bool) → t && (u && v) ≡ true → (v ≡ true → w ≡ true) → t && (u && w) ≡ true
+last_of_three true true v w e f = f e
+last_of_three true false v w e f = e
+last_of_three false u v w e f = e
 
-digits-behind : (d : ℕ) → 48 ≤ d → d ≤ 57 → (l : List ℕ) → digits l ≡ true → digits (l ++ (d ∷ [])) ≡ true
+digits_behind : (d : ℕ) → 48 ≤ d → d ≤ 57 → (l : List ℕ) → digits l ≡ true → digits (l ++ (d ∷ [])) ≡ true
 unfolding digits
-digits-behind d g h [] e = rw (le-leb 48 d g, le-leb d 57 h)
-digits-behind d g h (b ∷ l) e = last-of-three (leb 48 b) (leb b 57) (digits l) (digits (l ++ (d ∷ []))) e (digits-behind d g h l)
+digits_behind d g h [] e = rw (le-leb 48 d g, le-leb d 57 h)
+digits_behind d g h (b ∷ l) e = last_of_three (leb 48 b) (leb b 57) (digits l) (digits (l ++ (d ∷ []))) e (digits_behind d g h l)
 
 record Reads (l : List ℕ) (n : ℕ) : Type 0 where
   value : decimal 0 l ≡ n
   all : digits l ≡ true
-  some-digit : 1 ≤ length l
+  some_digit : 1 ≤ length l
 
-one-digit : (n : ℕ) → n < 10 → Reads ((48 + n) ∷ []) n
+one_digit : (n : ℕ) → n < 10 → Reads ((48 + n) ∷ []) n
 unfolding decimal digits
-one-digit n h =
+one_digit n h =
     let low : 48 ≤ 48 + n = omega arith in
     let high : 48 + n ≤ 57 = omega arith in
-    record { value = omega arith; all = rw (le-leb 48 (48 + n) low, le-leb (48 + n) 57 high); some-digit = omega arith }
+    record { value = omega arith; all = rw (le-leb 48 (48 + n) low, le-leb (48 + n) 57 high); some_digit = omega arith }
 
-one_more : (l : List ℕ) (n : ℕ) → Reads l (n / 10) → Reads (l ++ ((48 + n % 10) ∷ [])) n
-one_more l n r = record {
-  value = rw (decimal-behind 0 (48 + n % 10) l, r.value) (omega arith);
-  all = digits-behind (48 + n % 10) (omega arith) (omega arith) l r.all;
-  some-digit = omega (arith, length-append l ((48 + n % 10) ∷ []));
+one_more_lem : (l : List ℕ) (n : ℕ) → Reads l (n / 10) → Reads (l ++ ((48 + n % 10) ∷ [])) n
+one_more_lem l n r = record {
+  value = rw (decimal_behind 0 (48 + n % 10) l, r.value) (omega arith);
+  all = digits_behind (48 + n % 10) (omega arith) (omega arith) l r.all;
+  some_digit = omega (arith, length-append l ((48 + n % 10) ∷ []));
 }
 
-reads_in : (k n : ℕ) → n < 10 ^ suc k → Reads (decimalIn (suc k) n) n
-unfolding decimalIn
+reads_in : (k n : ℕ) → n < 10 ^ suc k → Reads (decimal_in (suc k) n) n
+unfolding decimal_in
 reads_in zero n h =
-    let small : n < 10 = omega (arith, pow-suc 10 0) in cases (ltb n 10) (λ t. rw t (one-digit n small)) (λ t. absurd (omega (arith, ltb-false n 10 t)))
+    let small : n < 10 = omega (arith, pow-suc 10 0) in cases (ltb n 10) (λ t. rw t (one_digit n small)) (λ t. absurd (omega (arith, ltb-false n 10 t)))
 reads_in (suc k) n h =
     let tens : n / 10 < 10 ^ suc k = omega (arith, pow-suc 10 (suc k)) in
-    cases (ltb n 10) (λ t. rw t (one-digit n (ltb-true n 10 t))) (λ t. rw t (one_more (decimalIn (suc k) (n / 10)) n (reads_in k (n / 10) tens)))
+    cases (ltb n 10) (λ t. rw t (one_digit n (ltb-true n 10 t))) (λ t. rw t (one_more_lem (decimal_in (suc k) (n / 10)) n (reads_in k (n / 10) tens)))
 
-pub read_back : (n : ℕ) → n ≤ 4294967295 → number_of (decimalOf n) ≡ some n
-unfolding number_of decimalOf
-read_back n h =
+pub read_back_lem : (n : ℕ) → n ≤ 4294967295 → number_of (decimal_of n) ≡ some n
+unfolding number_of decimal_of
+read_back_lem n h =
     let r = reads_in 9 n (omega arith) in
-    rw (le-leb 1 _ r.some-digit, le-leb _ 10 (decimal-short n), r.all, r.value, le-leb n 4294967295 h)
+    rw (le-leb 1 _ r.some_digit, le-leb _ 10 (decimal_short n), r.all, r.value, le-leb n 4294967295 h)

@@ -1,9 +1,9 @@
 // The console's answers, and their text.
 ghost use Rattle.std.specs.Prelude.{◌+◌, ◌≤◌, ◌<◌, [], ◌∷◌, ◌++◌, length};
-ghost use Rattle.console_answers.specs.Text.{decimalOf, text_of, wordBad, wordFull};
+ghost use Rattle.console_answers.specs.Text.{decimal_of, text_of, word_bad, word_full};
 ghost use Rattle.console_answers.specs.Put.{Put, shown};
-ghost use Rattle.console_answers.specs.Parts.{numbersOf};
-ghost use Rattle.console_lines.specs.Lines.{wordRun};
+ghost use Rattle.console_answers.specs.Parts.{numbers_of};
+ghost use Rattle.console_lines.specs.Lines.{word_run};
 
 // What a request is answered with: a register and the answer or its value, a run's answer and count, a place of the screen and its pixel.
 #[derive(Drop)]
@@ -27,8 +27,8 @@ fn put(out: &mut [u8], at: usize, b: u8) -> usize
 
 // The digits of a number; the ones behind those of the tens.
 fn put_number(out: &mut [u8], at: usize, n: u32) -> usize
-    requires { at + length (decimalOf n) ≤ length out.old }
-    ensures { Put out.old at (decimalOf n) out.new result }
+    requires { at + length (decimal_of n) ≤ length out.old }
+    ensures { Put out.old at (decimal_of n) out.new result }
 {
     if n < 10 {
         return put(out, at, 48 + n as u8);
@@ -40,7 +40,7 @@ fn put_number(out: &mut [u8], at: usize, n: u32) -> usize
 // Behind a word: two numbers, each behind a tab, and the newline.
 fn put_numbers(out: &mut [u8], at: usize, first: u32, second: u32) -> usize
     requires { at + 23 ≤ length out.old }
-    ensures { Put out.old at (numbersOf first second) out.new result }
+    ensures { Put out.old at (numbers_of first second) out.new result }
 {
     let a = put(out, at, b'\t');
     let b = put_number(out, a, first);
@@ -51,7 +51,7 @@ fn put_numbers(out: &mut [u8], at: usize, first: u32, second: u32) -> usize
 
 fn put_run(out: &mut [u8], at: usize) -> usize
     requires { at + 3 ≤ length out.old }
-    ensures { Put out.old at wordRun out.new result }
+    ensures { Put out.old at word_run out.new result }
 {
     let a = put(out, at, b'r');
     let b = put(out, a, b'u');
@@ -60,7 +60,7 @@ fn put_run(out: &mut [u8], at: usize) -> usize
 
 fn put_bad(out: &mut [u8], at: usize) -> usize
     requires { at + 4 ≤ length out.old }
-    ensures { Put out.old at (wordBad ++ (10 ∷ [])) out.new result }
+    ensures { Put out.old at (word_bad ++ (10 ∷ [])) out.new result }
 {
     let a = put(out, at, b'b');
     let b = put(out, a, b'a');
@@ -70,7 +70,7 @@ fn put_bad(out: &mut [u8], at: usize) -> usize
 
 fn put_full(out: &mut [u8], at: usize) -> usize
     requires { at + 5 ≤ length out.old }
-    ensures { Put out.old at (wordFull ++ (10 ∷ [])) out.new result }
+    ensures { Put out.old at (word_full ++ (10 ∷ [])) out.new result }
 {
     let a = put(out, at, b'f');
     let b = put(out, a, b'u');
@@ -82,7 +82,7 @@ fn put_full(out: &mut [u8], at: usize) -> usize
 // A line of a word of one letter and two numbers.
 fn put_line(out: &mut [u8], at: usize, letter: u8, first: u32, second: u32) -> usize
     requires { at + 24 ≤ length out.old }
-    ensures { Put out.old at (letter ∷ numbersOf first second) out.new result }
+    ensures { Put out.old at (letter ∷ numbers_of first second) out.new result }
 {
     let a = put(out, at, letter);
     put_numbers(out, a, first, second)

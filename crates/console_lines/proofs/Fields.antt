@@ -12,7 +12,7 @@ use lib.ListN.{length, get_or, take, drop, length-drop}
 use lib.Seq.{take_all}
 use borrow.Author.Tests.{ne_eqb}
 use Rattle.console_lines.specs.declared.Request.TheVariants.{Bad}
-use Rattle.console_lines.specs.Lines.{inFirst, fields, requestIn}
+use Rattle.console_lines.specs.Lines.{in_first, fields, request_in}
 use Rattle.console_lines.specs.Parts.{part, TabAt}
 
 -- No tab stands before place r.
@@ -22,11 +22,11 @@ NoTab l r = (k : ℕ) → k < r → get_or l k 0 ≡ 9 → ⊥
 later : (b : ℕ) (bs : List ℕ) (r : ℕ) → NoTab (b ∷ bs) (suc r) → NoTab bs r
 later b bs r none k h = none (suc k) (omega arith)
 
-to-tab : (l : List ℕ) (r : ℕ) → r < length l → NoTab l r → get_or l r 0 ≡ 9 → fields l ≡ take r l ∷ fields (drop (suc r) l)
+to_tab : (l : List ℕ) (r : ℕ) → r < length l → NoTab l r → get_or l r 0 ≡ 9 → fields l ≡ take r l ∷ fields (drop (suc r) l)
 unfolding fields
-to-tab [] r h none tab = absurd (omega arith)
-to-tab (b ∷ bs) zero h none tab = rw tab
-to-tab (b ∷ bs) (suc r) h none tab = rw (ne_eqb b 9 (none 0 (omega arith)), to-tab bs r (omega arith) (later b bs r none) tab)
+to_tab [] r h none tab = absurd (omega arith)
+to_tab (b ∷ bs) zero h none tab = rw tab
+to_tab (b ∷ bs) (suc r) h none tab = rw (ne_eqb b 9 (none 0 (omega arith)), to_tab bs r (omega arith) (later b bs r none) tab)
 
 whole : (l : List ℕ) → NoTab l (length l) → fields l ≡ l ∷ []
 unfolding fields
@@ -36,26 +36,26 @@ whole (b ∷ bs) none = rw (ne_eqb b 9 (none 0 (omega arith)), whole bs (later b
 rest : (l : List ℕ) (k : ℕ) → part l k (length l) ≡ drop k l
 rest l k = take_all (length l - k) (drop k l) (simp length-drop (omega arith))
 
-pub tab-found : (l : List ℕ) (r : ℕ) → r < length l → NoTab l r → get_or l r 0 ≡ 9 → TabAt l r
-tab-found l r h none tab = record {
-  found = λ _. rw (rest l (r + 1), add-one, sub-zero) (to-tab l r h none tab);
+pub tab_found : (l : List ℕ) (r : ℕ) → r < length l → NoTab l r → get_or l r 0 ≡ 9 → TabAt l r
+tab_found l r h none tab = record {
+  found = λ _. rw (rest l (r + 1), add-one, sub-zero) (to_tab l r h none tab);
   absent = λ past. absurd (omega arith);
 }
 
-pub tab-absent : (l : List ℕ) (r : ℕ) → length l ≤ r → NoTab l r → TabAt l r
-tab-absent l r past none = record {
+pub tab_absent : (l : List ℕ) (r : ℕ) → length l ≤ r → NoTab l r → TabAt l r
+tab_absent l r past none = record {
   found = λ more. absurd (omega arith);
   absent = λ _. whole l (λ k less. none k (omega arith));
 }
 
-more-than-three : (c : Bool) (b : ℕ) (fs : List (List ℕ)) (w x y : List ℕ)
-    → requestIn (w ∷ x ∷ y ∷ cond c ([] ∷ fs) (inFirst b fs)) ≡ Bad
-unfolding requestIn
-more-than-three true b fs w x y = refl
-more-than-three false b [] w x y = refl
-more-than-three false b (f ∷ fs) w x y = refl
+more_than_three : (c : Bool) (b : ℕ) (fs : List (List ℕ)) (w x y : List ℕ)
+    → request_in (w ∷ x ∷ y ∷ cond c ([] ∷ fs) (in_first b fs)) ≡ Bad
+unfolding request_in
+more_than_three true b fs w x y = refl
+more_than_three false b [] w x y = refl
+more_than_three false b (f ∷ fs) w x y = refl
 
-pub four-fields : (w x y l : List ℕ) → requestIn (w ∷ x ∷ y ∷ fields l) ≡ Bad
-unfolding requestIn fields
-four-fields w x y [] = refl
-four-fields w x y (b ∷ bs) = more-than-three (eqb b 9) b (fields bs) w x y
+pub four_fields : (w x y l : List ℕ) → request_in (w ∷ x ∷ y ∷ fields l) ≡ Bad
+unfolding request_in fields
+four_fields w x y [] = refl
+four_fields w x y (b ∷ bs) = more_than_three (eqb b 9) b (fields bs) w x y

@@ -5,13 +5,13 @@ use Rattle.console_lines.specs.declared.Request.{Request}
 use Rattle.console_lines.specs.declared.Request.TheVariants.{Write, Read, Append, Pixel, Run, Screen, Bad}
 
 -- "fields parted by one tab": a line has one field more than tabs.
-abbrev pub inFirst : ℕ → List (List ℕ) → List (List ℕ)
-inFirst b [] = (b ∷ []) ∷ []
-inFirst b (f ∷ fs) = (b ∷ f) ∷ fs
+abbrev pub in_first : ℕ → List (List ℕ) → List (List ℕ)
+in_first b [] = (b ∷ []) ∷ []
+in_first b (f ∷ fs) = (b ∷ f) ∷ fs
 
 unfoldable pub fields : List ℕ → List (List ℕ)
 fields [] = [] ∷ []
-fields (b ∷ bs) = cond (eqb b 9) ([] ∷ fields bs) (inFirst b (fields bs))
+fields (b ∷ bs) = cond (eqb b 9) ([] ∷ fields bs) (in_first b (fields bs))
 
 -- "a number is one to ten digits, at most 4294967295"
 unfoldable pub digits : List ℕ → Bool
@@ -34,48 +34,48 @@ same (b ∷ bs) [] = false
 same (b ∷ bs) (c ∷ cs) = eqb b c && same bs cs
 
 -- The words of the requests, as bytes.
-abbrev pub wordW : List ℕ
-wordW = 119 ∷ []
+abbrev pub word_w : List ℕ
+word_w = 119 ∷ []
 
-abbrev pub wordR : List ℕ
-wordR = 114 ∷ []
+abbrev pub word_r : List ℕ
+word_r = 114 ∷ []
 
-abbrev pub wordP : List ℕ
-wordP = 112 ∷ []
+abbrev pub word_p : List ℕ
+word_p = 112 ∷ []
 
-abbrev pub wordF : List ℕ
-wordF = 102 ∷ []
+abbrev pub word_f : List ℕ
+word_f = 102 ∷ []
 
-abbrev pub wordRun : List ℕ
-wordRun = 114 ∷ 117 ∷ 110 ∷ []
+abbrev pub word_run : List ℕ
+word_run = 114 ∷ 117 ∷ 110 ∷ []
 
-abbrev pub wordS : List ℕ
-wordS = 115 ∷ []
+abbrev pub word_s : List ℕ
+word_s = 115 ∷ []
 
 -- "place above 1,023 prints bad"
 abbrev pub placed : ℕ → Request → Request
 placed place request = cond (leb place 1023) request Bad
 
 -- "`r index`", "`p word`", "`run budget`", "`s place`"
-unfoldable pub withOne : List ℕ → Option ℕ → Request
-withOne word none = Bad
-withOne word (some n) =
-    cond (same word wordR) (Read n)
-    (cond (same word wordP) (Append n) (cond (same word wordRun) (Run n) (cond (same word wordS) (placed n (Screen n)) Bad)))
+unfoldable pub with_one : List ℕ → Option ℕ → Request
+with_one word none = Bad
+with_one word (some n) =
+    cond (same word word_r) (Read n)
+    (cond (same word word_p) (Append n) (cond (same word word_run) (Run n) (cond (same word word_s) (placed n (Screen n)) Bad)))
 
 -- "`w index value`", "`f place pixel`"
-unfoldable pub withTwo : List ℕ → Option ℕ → Option ℕ → Request
-withTwo word none b = Bad
-withTwo word (some m) none = Bad
-withTwo word (some m) (some n) = cond (same word wordW) (Write m n) (cond (same word wordF) (placed m (Pixel m n)) Bad)
+unfoldable pub with_two : List ℕ → Option ℕ → Option ℕ → Request
+with_two word none b = Bad
+with_two word (some m) none = Bad
+with_two word (some m) (some n) = cond (same word word_w) (Write m n) (cond (same word word_f) (placed m (Pixel m n)) Bad)
 
 -- "Any other line .. prints bad."
-unfoldable pub requestIn : List (List ℕ) → Request
-requestIn [] = Bad
-requestIn (word ∷ []) = Bad
-requestIn (word ∷ a ∷ []) = withOne word (number_of a)
-requestIn (word ∷ a ∷ b ∷ []) = withTwo word (number_of a) (number_of b)
-requestIn (word ∷ a ∷ b ∷ c ∷ rest) = Bad
+unfoldable pub request_in : List (List ℕ) → Request
+request_in [] = Bad
+request_in (word ∷ []) = Bad
+request_in (word ∷ a ∷ []) = with_one word (number_of a)
+request_in (word ∷ a ∷ b ∷ []) = with_two word (number_of a) (number_of b)
+request_in (word ∷ a ∷ b ∷ c ∷ rest) = Bad
 
-unfoldable pub requestOf : List ℕ → Request
-requestOf line = requestIn (fields line)
+unfoldable pub request_of : List ℕ → Request
+request_of line = request_in (fields line)

@@ -1,6 +1,6 @@
 // A line of the console, taken apart: a request, or a bad line.
 ghost use Rattle.std.specs.Prelude.{◌≡◌, ℕ, ◌<◌, [], ◌∷◌, eqb};
-ghost use Rattle.console_lines.specs.Lines.{fields, number_of, same, wordRun, withOne, withTwo, requestIn, requestOf};
+ghost use Rattle.console_lines.specs.Lines.{fields, number_of, same, word_run, with_one, with_two, request_in, request_of};
 ghost use Rattle.console_lines.specs.Parts.{told, TabAt};
 
 // What a line asks for.
@@ -35,7 +35,7 @@ fn letter_of(word: &[u8]) -> u8
 }
 
 fn is_run(word: &[u8]) -> bool
-    ensures { result ≡ same word.now wordRun }
+    ensures { result ≡ same word.now word_run }
 {
     if word.len() != 3 {
         return false;
@@ -89,7 +89,7 @@ fn number_of(f: &[u8]) -> Number
 // ---- the requests
 
 fn with_one(word: &[u8], a: &[u8]) -> Request
-    ensures { result ≡ withOne word.now (number_of a.now) }
+    ensures { result ≡ with_one word.now (number_of a.now) }
 {
     let Number::Is(n) = number_of(a) else {
         return Request::Bad;
@@ -115,7 +115,7 @@ fn with_one(word: &[u8], a: &[u8]) -> Request
 }
 
 fn with_two(word: &[u8], a: &[u8], b: &[u8]) -> Request
-    ensures { result ≡ withTwo word.now (number_of a.now) (number_of b.now) }
+    ensures { result ≡ with_two word.now (number_of a.now) (number_of b.now) }
 {
     let Number::Is(m) = number_of(a) else {
         return Request::Bad;
@@ -154,7 +154,7 @@ fn tab_in(line: &[u8]) -> usize
 
 // A word and one field, with what follows it.
 fn after_one(word: &[u8], a: &[u8], rest: &[u8]) -> Request
-    ensures { result ≡ requestIn (word.now ∷ a.now ∷ fields rest.now) }
+    ensures { result ≡ request_in (word.now ∷ a.now ∷ fields rest.now) }
 {
     if tab_in(rest) < rest.len() {
         return Request::Bad;
@@ -164,7 +164,7 @@ fn after_one(word: &[u8], a: &[u8], rest: &[u8]) -> Request
 
 // A word, with what follows it.
 fn after_word(word: &[u8], rest: &[u8]) -> Request
-    ensures { result ≡ requestIn (word.now ∷ fields rest.now) }
+    ensures { result ≡ request_in (word.now ∷ fields rest.now) }
 {
     let n = rest.len();
     let tab = tab_in(rest);
@@ -178,7 +178,7 @@ fn after_word(word: &[u8], rest: &[u8]) -> Request
 // The request of a line, its newline left out.
 // Rules out: a number of eleven digits or above 4294967295 taken; a place above 1,023 taken; a tab at the end overlooked.
 pub fn request_of(line: &[u8]) -> Request
-    ensures { result ≡ requestOf line.now }
+    ensures { result ≡ request_of line.now }
 {
     let n = line.len();
     let tab = tab_in(line);

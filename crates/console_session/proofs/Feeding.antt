@@ -14,39 +14,39 @@ use borrow.Table.Steps.{cases}
 use Rattle.geometry.proofs.Tests.{both}
 use Rattle.device.specs.declared.Making.{Making}
 use Rattle.device.specs.declared.Making.TheVariants.{Made, Refused}
-use Rattle.device.specs.Device.{fresh, sizesGood}
+use Rattle.device.specs.Device.{fresh, sizes_good}
 use Rattle.device.specs.Making.{Creation, creation, made_of}
 use Rattle.console_session.specs.declared.Session.{Session}
 use Rattle.console_session.specs.Console.{memory, pixels}
-use Rattle.console_session.specs.Session.{State, fed, fedAll, flushed, fits, Within, Line, lineByte, lineFed}
-use Rattle.console_session.proofs.Behind.{fed-text, flushed-all}
+use Rattle.console_session.specs.Session.{State, fed, fed_all, flushed, fits, Within, Line, line_byte, line_fed}
+use Rattle.console_session.proofs.Behind.{fed_text, flushed_all}
 
-pub fed-behind : (s : State) (a : List ℕ) (b : ℕ) → fedAll s (a ++ (b ∷ [])) ≡ fed (fedAll s a) b
-unfolding fedAll
-fed-behind s [] b = refl
-fed-behind s (x ∷ a) b = fed-behind (fed s x) a b
+pub fed_behind : (s : State) (a : List ℕ) (b : ℕ) → fed_all s (a ++ (b ∷ [])) ≡ fed (fed_all s a) b
+unfolding fed_all
+fed_behind s [] b = refl
+fed_behind s (x ∷ a) b = fed_behind (fed s x) a b
 
-pub fed-one : (s : State) (chunk : List ℕ) (i : ℕ) → i < length chunk
-    → fedAll s (take (i + 1) chunk) ≡ fed (fedAll s (take i chunk)) (get_or chunk i 0)
-fed-one s chunk i h = rw (add-one, take-suc chunk i 0 h) (fed-behind s (take i chunk) (get_or chunk i 0))
+pub fed_one : (s : State) (chunk : List ℕ) (i : ℕ) → i < length chunk
+    → fed_all s (take (i + 1) chunk) ≡ fed (fed_all s (take i chunk)) (get_or chunk i 0)
+fed_one s chunk i h = rw (add-one, take-suc chunk i 0 h) (fed_behind s (take i chunk) (get_or chunk i 0))
 
 -- What the chunk's first bytes print.
-pub text-one : (s : State) (chunk : List ℕ) (i : ℕ) → i < length chunk
-    → (fedAll (flushed s) (take (i + 1) chunk)).printed
-    ≡ (fedAll (flushed s) (take i chunk)).printed ++ (fed (flushed (fedAll s (take i chunk))) (get_or chunk i 0)).printed
-text-one s chunk i h =
-    ap (λ (t : State). t.printed) (fed-one (flushed s) chunk i h)
-    ∙ fed-text (fedAll (flushed s) (take i chunk)) (get_or chunk i 0)
-    ∙ ap (λ (t : State). (fedAll (flushed s) (take i chunk)).printed ++ (fed t (get_or chunk i 0)).printed) (flushed-all s (take i chunk))
+pub text_one : (s : State) (chunk : List ℕ) (i : ℕ) → i < length chunk
+    → (fed_all (flushed s) (take (i + 1) chunk)).printed
+    ≡ (fed_all (flushed s) (take i chunk)).printed ++ (fed (flushed (fed_all s (take i chunk))) (get_or chunk i 0)).printed
+text_one s chunk i h =
+    ap (λ (t : State). t.printed) (fed_one (flushed s) chunk i h)
+    ∙ fed_text (fed_all (flushed s) (take i chunk)) (get_or chunk i 0)
+    ∙ ap (λ (t : State). (fed_all (flushed s) (take i chunk)).printed ++ (fed t (get_or chunk i 0)).printed) (flushed_all s (take i chunk))
 
-line-behind : (l : Line) (a : List ℕ) (b : ℕ) → lineFed l (a ++ (b ∷ [])) ≡ lineByte (lineFed l a) b
-unfolding lineFed
-line-behind l [] b = refl
-line-behind l (x ∷ a) b = line-behind (lineByte l x) a b
+line_behind : (l : Line) (a : List ℕ) (b : ℕ) → line_fed l (a ++ (b ∷ [])) ≡ line_byte (line_fed l a) b
+unfolding line_fed
+line_behind l [] b = refl
+line_behind l (x ∷ a) b = line_behind (line_byte l x) a b
 
-pub line-one : (l : Line) (chunk : List ℕ) (i : ℕ) → i < length chunk
-    → lineFed l (take (i + 1) chunk) ≡ lineByte (lineFed l (take i chunk)) (get_or chunk i 0)
-line-one l chunk i h = rw (add-one, take-suc chunk i 0 h) (line-behind l (take i chunk) (get_or chunk i 0))
+pub line_one : (l : Line) (chunk : List ℕ) (i : ℕ) → i < length chunk
+    → line_fed l (take (i + 1) chunk) ≡ line_byte (line_fed l (take i chunk)) (get_or chunk i 0)
+line_one l chunk i h = rw (add-one, take-suc chunk i 0 h) (line_behind l (take i chunk) (get_or chunk i 0))
 
 -- The loop over a chunk: of its bytes i are fed, and what is printed has room.
 pub record Feeding (s t : Session) (i chunk : ℕ) : Type 0 where
@@ -56,25 +56,25 @@ pub record Feeding (s t : Session) (i chunk : ℕ) : Type 0 where
 
 -- ---- what fits
 
-pub fits-within : (s : Session) (n line out : ℕ) → fits s n line out ≡ true → Within s n line out
+pub fits_within : (s : Session) (n line out : ℕ) → fits s n line out ≡ true → Within s n line out
 unfolding fits
-fits-within s n line out e =
-    let line-fits = both (eqb line 32) _ e in
-    let rest = both (leb s.held 32) _ line-fits.1 in record {
-      whole = eqb-true _ _ line-fits.0;
+fits_within s n line out e =
+    let line_fits = both (eqb line 32) _ e in
+    let rest = both (leb s.held 32) _ line_fits.1 in record {
+      whole = eqb-true _ _ line_fits.0;
       held = leb-true _ _ rest.0;
       room = leb-true _ _ rest.1;
     }
 
-pub within-fits : (s : Session) (n line out : ℕ) → Within s n line out → fits s n line out ≡ true
+pub within_fits : (s : Session) (n line out : ℕ) → Within s n line out → fits s n line out ≡ true
 unfolding fits
-within-fits s n line out w = rw (eq-eqb line 32 w.whole, le-leb _ 32 w.held, le-leb _ _ w.room)
+within_fits s n line out w = rw (eq-eqb line 32 w.whole, le-leb _ 32 w.held, le-leb _ _ w.room)
 
 pub within_none : {s : Session} {n line out : ℕ} → Within s n line out → Within s 0 line out
 within_none w = record { whole = w.whole; held = w.held; room = omega (arith, w.room) }
 
-pub room-test : (n printed out : ℕ) → printed ≤ out → leb n ((out - printed) / 26) ≡ leb (printed + 26 * n) out
-room-test n printed out h =
+pub room_test : (n printed out : ℕ) → printed ≤ out → leb n ((out - printed) / 26) ≡ leb (printed + 26 * n) out
+room_test n printed out h =
     cases (leb n ((out - printed) / 26))
     (λ t. let k : n ≤ (out - printed) / 26 = leb-true _ _ t in
     let room : printed + 26 * n ≤ out = omega arith in t ∙ sym (le-leb _ _ room))
@@ -83,7 +83,7 @@ room-test n printed out h =
 
 -- ---- the device
 
-pub console-made : (m : Making) → creation m ≡ made_of memory pixels → m ≡ Made (fresh memory pixels)
-unfolding made_of sizesGood
-console-made (Made d) e = let d-is = ap (λ (c : Creation). c.device) e in cc
-console-made Refused e = let z : ◌≡◌ {A = ℕ} 34 0 = ap (λ (c : Creation). c.answer) e in absurd (omega arith)
+pub console_made : (m : Making) → creation m ≡ made_of memory pixels → m ≡ Made (fresh memory pixels)
+unfolding made_of sizes_good
+console_made (Made d) e = let d-is = ap (λ (c : Creation). c.device) e in cc
+console_made Refused e = let z : ◌≡◌ {A = ℕ} 34 0 = ap (λ (c : Creation). c.answer) e in absurd (omega arith)

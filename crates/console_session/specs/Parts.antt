@@ -9,14 +9,14 @@ use Rattle.console_session.specs.declared.Performed.{Performed as Done}
 use Rattle.console_session.specs.declared.Session.{Session}
 
 -- The device stays.
-abbrev pub keepingOf : Device → ConsoleAnswer → Done
-keepingOf d answer = record { device = d; answer = answer }
+abbrev pub keeping_of : Device → ConsoleAnswer → Done
+keeping_of d answer = record { device = d; answer = answer }
 
 -- The answer to a register write, and the device that it left.
 abbrev pub written_of : ℕ → WriteOutcome → Done
 written_of index o = record { device = o.device; answer = Written index o.answer }
 
 -- The answer to an append, and the ring memory that it left.
-pub record appendAnswer (answer : ConsoleAnswer) (ring : List ℕ) (a : Appended) : Type 0 where
+pub record append_answer (answer : ConsoleAnswer) (ring : List ℕ) (a : Appended) : Type 0 where
   pub says : answer ≡ cond (eqb a.answer 0) Nothing Full
   pub leaves : ring ≡ a.ring

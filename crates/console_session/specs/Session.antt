@@ -1,12 +1,12 @@
 -- The console fed byte by byte, in constant memory: of a line it keeps the first 32 bytes.
 use Rattle.std.specs.Prelude.{ℕ, ◌+◌, ◌*◌, ◌≤◌, ◌≡◌, Bool, cond, ◌&&◌, List, [], ◌∷◌, ◌++◌, eqb, ltb, leb, length, take, set}
-use Rattle.console_lines.specs.Lines.{requestOf}
+use Rattle.console_lines.specs.Lines.{request_of}
 use Rattle.console_answers.specs.Text.{text_of}
 use Rattle.console_answers.specs.Put.{Put}
 use Rattle.device.specs.declared.Device.{Device}
 use Rattle.device_run.specs.Run.{Lent, Slice}
 use Rattle.console_session.specs.declared.Session.{Session}
-use Rattle.console_session.specs.Console.{Console, Performed, consoleOf, performed, start}
+use Rattle.console_session.specs.Console.{Console, Performed, console_of, performed, start}
 use Rattle.console_session.specs.declared.Start.TheVariants.{Ready}
 use Rattle.console_session.specs.declared.Start.{Start}
 
@@ -24,7 +24,7 @@ abbrev pub told : List ℕ → Performed → State
 told printed p = record { console = p.console; held = []; printed = printed ++ text_of p.answer }
 
 unfoldable pub answered : State → State
-answered s = told s.printed (performed s.console (requestOf s.held))
+answered s = told s.printed (performed s.console (request_of s.held))
 
 -- One byte more of a line: the first 32 are kept. A line that long is bad.
 unfoldable pub kept : List ℕ → ℕ → List ℕ
@@ -33,9 +33,9 @@ kept held b = cond (ltb (length held) 32) (held ++ (b ∷ [])) held
 unfoldable pub fed : State → ℕ → State
 fed s b = cond (eqb b 10) (answered s) (record { console = s.console; held = kept s.held b; printed = s.printed })
 
-unfoldable pub fedAll : State → List ℕ → State
-fedAll s [] = s
-fedAll s (b ∷ bs) = fedAll (fed s b) bs
+unfoldable pub fed_all : State → List ℕ → State
+fed_all s [] = s
+fed_all s (b ∷ bs) = fed_all (fed s b) bs
 
 -- The input's end: a last line without newline is a line.
 unfoldable pub ended : State → State
@@ -46,14 +46,14 @@ abbrev pub flushed : State → State
 flushed s = record { console = s.console; held = s.held; printed = [] }
 
 -- All that is written where the input comes in chunks and the text is written out behind each, and at the end.
-unfoldable pub writtenOut : State → List (List ℕ) → List ℕ
-writtenOut s [] = (ended s).printed
-writtenOut s (chunk ∷ chunks) = (fedAll s chunk).printed ++ writtenOut (flushed (fedAll s chunk)) chunks
+unfoldable pub written_out : State → List (List ℕ) → List ℕ
+written_out s [] = (ended s).printed
+written_out s (chunk ∷ chunks) = (fed_all s chunk).printed ++ written_out (flushed (fed_all s chunk)) chunks
 
 -- The state before that end: each chunk was fed and its text written out.
 unfoldable pub served : State → List (List ℕ) → State
 served s [] = s
-served s (chunk ∷ chunks) = served (flushed (fedAll s chunk)) chunks
+served s (chunk ∷ chunks) = served (flushed (fed_all s chunk)) chunks
 
 -- The chunks as one input.
 unfoldable pub joined : List (List ℕ) → List ℕ
@@ -63,14 +63,14 @@ joined (chunk ∷ chunks) = chunk ++ joined chunks
 -- ---- what the code keeps: a session, the lent memories, a line of 32 bytes and a buffer for the text
 
 abbrev pub state_of : Session → List ℕ → Lent → List ℕ → State
-state_of s line l out = record { console = consoleOf s.device l; held = take s.held line; printed = take s.printed out }
+state_of s line l out = record { console = console_of s.device l; held = take s.held line; printed = take s.printed out }
 
 -- The same at a call's entry, and at its exit.
-abbrev pub stateBefore : Session → Slice → Lent → Slice → State
-stateBefore s line l out = state_of s line.entry.now l out.entry.now
+abbrev pub state_before : Session → Slice → Lent → Slice → State
+state_before s line l out = state_of s line.entry.now l out.entry.now
 
-abbrev pub stateAfter : Session → Slice → Lent → Slice → State
-stateAfter s line l out = state_of s line.exit.now l out.exit.now
+abbrev pub state_after : Session → Slice → Lent → Slice → State
+state_after s line l out = state_of s line.exit.now l out.exit.now
 
 -- The line has 32 bytes, and out has room for the answers to n lines, each of at most 26 bytes.
 unfoldable pub fits : Session → ℕ → ℕ → ℕ → Bool
@@ -87,8 +87,8 @@ abbrev pub HasRoom : Session → ℕ → Slice → Slice → Type 0
 HasRoom s n line out = Within s n (length line.entry.now) (length out.entry.now)
 
 -- Where there is no room for n lines, a call leaves what it found.
-abbrev pub ifRoom : {A : Type 0} → Session → ℕ → Slice → Slice → A → A → A
-ifRoom s n line out = cond (fits s n (length line.entry.now) (length out.entry.now))
+abbrev pub if_room : {A : Type 0} → Session → ℕ → Slice → Slice → A → A → A
+if_room s n line out = cond (fits s n (length line.entry.now) (length out.entry.now))
 
 -- What was printed is written out.
 abbrev pub emptied : Session → Session
@@ -101,36 +101,36 @@ pub record Line : Type 0 where
   pub held : ℕ
   pub bytes : List ℕ
 
-abbrev pub lineWith : ℕ → List ℕ → Line
-lineWith held bytes = record { held = held; bytes = bytes }
+abbrev pub line_with : ℕ → List ℕ → Line
+line_with held bytes = record { held = held; bytes = bytes }
 
 -- The same of a session at a call's entry.
-abbrev pub lineBefore : Session → Slice → Line
-lineBefore s line = lineWith s.held line.entry.now
+abbrev pub line_before : Session → Slice → Line
+line_before s line = line_with s.held line.entry.now
 
 -- The line's end: no byte is held, and all stay as they are.
 abbrev pub rested : Line → Line
-rested l = lineWith 0 l.bytes
+rested l = line_with 0 l.bytes
 
 -- A byte more is set behind those that are held; where 32 are, it is left out. All others stay.
-unfoldable pub lineKept : Line → ℕ → Line
-lineKept l b = cond (ltb l.held 32) (lineWith (l.held + 1) (set l.bytes l.held b)) l
+unfoldable pub line_kept : Line → ℕ → Line
+line_kept l b = cond (ltb l.held 32) (line_with (l.held + 1) (set l.bytes l.held b)) l
 
 -- A byte of the input, and bytes.
-unfoldable pub lineByte : Line → ℕ → Line
-lineByte l b = cond (eqb b 10) (rested l) (lineKept l b)
+unfoldable pub line_byte : Line → ℕ → Line
+line_byte l b = cond (eqb b 10) (rested l) (line_kept l b)
 
-unfoldable pub lineFed : Line → List ℕ → Line
-lineFed l [] = l
-lineFed l (b ∷ bs) = lineFed (lineByte l b) bs
+unfoldable pub line_fed : Line → List ℕ → Line
+line_fed l [] = l
+line_fed l (b ∷ bs) = line_fed (line_byte l b) bs
 
 -- The state at a call's entry, as if nothing were printed: what is printed from there on is what the call prints.
 abbrev pub unprinted : Session → Slice → Lent → State
-unprinted s line l = record { console = consoleOf s.device l; held = take s.held line.entry.now; printed = [] }
+unprinted s line l = record { console = console_of s.device l; held = take s.held line.entry.now; printed = [] }
 
 -- What is left of the line, and of out: a text printed stands behind what was printed before, and every other byte is as it was.
 pub record Buffers (s r : Session) (bytes before after : List ℕ) (l : Line) (text : List ℕ) : Type 0 where
-  pub line : lineWith r.held bytes ≡ l
+  pub line : line_with r.held bytes ≡ l
   pub out : Put before s.printed text after r.printed
 
 -- The same of a call.
@@ -143,5 +143,5 @@ pub record Served (s t : State) : Type 0 where
   pub state : t ≡ served s chunks
 
 -- A session that begins.
-abbrev pub readyWith : Device → Start
-readyWith d = Ready (record { device = d; held = 0; printed = 0 })
+abbrev pub ready_with : Device → Start
+ready_with d = Ready (record { device = d; held = 0; printed = 0 })

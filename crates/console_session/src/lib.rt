@@ -1,15 +1,15 @@
 // The console: requests on a device and its memories, and a session that is fed its input byte by byte.
 ghost use Rattle.std.specs.Prelude.{◌+◌, ◌*◌, ◌≤◌, ◌≡◌, [], length, get_or, set, take};
-ghost use Rattle.ring.specs.Append.{appendOf};
+ghost use Rattle.ring.specs.Append.{append_of};
 ghost use Rattle.device.specs.Device.{fresh};
 ghost use Rattle.register_read.specs.Registers.{read_of};
 ghost use Rattle.register_write.specs.Registers.{written};
-ghost use Rattle.device_run.specs.Run.{lentBefore, lentAfter};
+ghost use Rattle.device_run.specs.Run.{lent_before, lent_after};
 ghost use Rattle.console_lines.specs.declared.Request.TheVariants.{Run};
-ghost use Rattle.console_session.specs.Console.{performed, consoleOf, memory, pixels, ringStart, performedOf};
-ghost use Rattle.console_session.specs.Session.{stateBefore, stateAfter, answered, kept, fed, fedAll, ended, fits, Within, HasRoom, ifRoom, emptied, readyWith};
-ghost use Rattle.console_session.specs.Session.{lineWith, lineBefore, rested, lineKept, lineByte, lineFed, unprinted, Leaves};
-ghost use Rattle.console_session.specs.Parts.{keepingOf, written_of, appendAnswer};
+ghost use Rattle.console_session.specs.Console.{performed, console_of, memory, pixels, ring_start, performed_of};
+ghost use Rattle.console_session.specs.Session.{state_before, state_after, answered, kept, fed, fed_all, ended, fits, Within, HasRoom, if_room, emptied, ready_with};
+ghost use Rattle.console_session.specs.Session.{line_with, line_before, rested, line_kept, line_byte, line_fed, unprinted, Leaves};
+ghost use Rattle.console_session.specs.Parts.{keeping_of, written_of, append_answer};
 
 use adapter::{Device, Making, Value};
 use console_answers::ConsoleAnswer;
@@ -57,7 +57,7 @@ fn value_of(d: Device, index: u32) -> u32
 }
 
 fn append(ring: &mut [u32], word: u32) -> ConsoleAnswer
-    ensures { appendAnswer result ring.new (appendOf ring.old word) }
+    ensures { append_answer result ring.new (append_of ring.old word) }
 {
     let answer = ring::append(ring, word);
     match answer {
@@ -89,7 +89,7 @@ fn pixel_at(screen: &[u32], place: u32) -> u32
 
 // The device stays.
 fn keeping(d: Device, answer: ConsoleAnswer) -> Performed
-    ensures { result ≡ keepingOf d answer }
+    ensures { result ≡ keeping_of d answer }
 {
     Performed { answer, device: d }
 }
@@ -112,8 +112,8 @@ fn run_device(
     cursor: &mut [u32],
     budget: u32,
 ) -> Performed
-    ensures { performedOf result (lentAfter ring framebuffer screen cursor)
-        ≡ performed (consoleOf d (lentBefore ring framebuffer screen cursor)) (Run budget) }
+    ensures { performed_of result (lent_after ring framebuffer screen cursor)
+        ≡ performed (console_of d (lent_before ring framebuffer screen cursor)) (Run budget) }
 {
     let r = adapter::run(d, ring, framebuffer, screen, cursor, budget);
     let number = r.answer;
@@ -132,8 +132,8 @@ pub fn perform(
     screen: &mut [u32],
     cursor: &mut [u32],
 ) -> Performed
-    ensures { performedOf result (lentAfter ring framebuffer screen cursor)
-        ≡ performed (consoleOf d (lentBefore ring framebuffer screen cursor)) request }
+    ensures { performed_of result (lent_after ring framebuffer screen cursor)
+        ≡ performed (console_of d (lent_before ring framebuffer screen cursor)) request }
 {
     match request {
         Request::Write(index, value) => return write_register(d, ring, index, value),
@@ -165,10 +165,10 @@ fn answer_line(
     out: &mut [u8],
 ) -> Session
     requires { Within s 1 (length line.now) (length out.old) }
-    ensures out_value { stateAfter result line (lentAfter ring framebuffer screen cursor) out
-        ≡ answered (stateBefore s line (lentBefore ring framebuffer screen cursor) out) }
-    ensures leaves { Leaves s result line out (rested (lineBefore s line))
-        (answered (unprinted s line (lentBefore ring framebuffer screen cursor))).printed }
+    ensures out_value { state_after result line (lent_after ring framebuffer screen cursor) out
+        ≡ answered (state_before s line (lent_before ring framebuffer screen cursor) out) }
+    ensures leaves { Leaves s result line out (rested (line_before s line))
+        (answered (unprinted s line (lent_before ring framebuffer screen cursor))).printed }
     ensures has_room { HasRoom result 0 line out }
     ensures printed_bound { result.printed ≤ s.printed + 26 }
 {
@@ -191,7 +191,7 @@ fn keep(line: &mut [u8], held: usize, b: u8) -> usize
     requires line_len { length line.old ≡ 32 }
     requires held_bound { held ≤ 32 }
     ensures line_after { take result line.new ≡ kept (take held line.old) b }
-    ensures line_after_2 { lineWith result line.new ≡ lineKept (lineWith held line.old) b }
+    ensures line_after_2 { line_with result line.new ≡ line_kept (line_with held line.old) b }
     ensures upper_bound { result ≤ 32 }
 {
     if held < 32 {
@@ -212,10 +212,10 @@ fn feed_byte(
     out: &mut [u8],
 ) -> Session
     requires { Within s 1 (length line.old) (length out.old) }
-    ensures out_value { stateAfter result line (lentAfter ring framebuffer screen cursor) out
-        ≡ fed (stateBefore s line (lentBefore ring framebuffer screen cursor) out) b }
-    ensures leaves { Leaves s result line out (lineByte (lineBefore s line) b)
-        (fed (unprinted s line (lentBefore ring framebuffer screen cursor)) b).printed }
+    ensures out_value { state_after result line (lent_after ring framebuffer screen cursor) out
+        ≡ fed (state_before s line (lent_before ring framebuffer screen cursor) out) b }
+    ensures leaves { Leaves s result line out (line_byte (line_before s line) b)
+        (fed (unprinted s line (lent_before ring framebuffer screen cursor)) b).printed }
     ensures has_room { HasRoom result 0 line out }
     ensures printed_bound { result.printed ≤ s.printed + 26 }
 {
@@ -237,10 +237,10 @@ fn feed_bytes(
     out: &mut [u8],
 ) -> Session
     requires { Within s (length chunk.now) (length line.old) (length out.old) }
-    ensures out_value { stateAfter result line (lentAfter ring framebuffer screen cursor) out
-        ≡ fedAll (stateBefore s line (lentBefore ring framebuffer screen cursor) out) chunk.now }
-    ensures leaves { Leaves s result line out (lineFed (lineBefore s line) chunk.now)
-        (fedAll (unprinted s line (lentBefore ring framebuffer screen cursor)) chunk.now).printed }
+    ensures out_value { state_after result line (lent_after ring framebuffer screen cursor) out
+        ≡ fed_all (state_before s line (lent_before ring framebuffer screen cursor) out) chunk.now }
+    ensures leaves { Leaves s result line out (line_fed (line_before s line) chunk.now)
+        (fed_all (unprinted s line (lent_before ring framebuffer screen cursor)) chunk.now).printed }
     ensures has_room { HasRoom result 0 line out }
 {
     let mut t = s;
@@ -270,7 +270,7 @@ fn room_for(s: Session, n: usize, line: usize, out: usize) -> bool
 // ---- the session
 
 fn start_ring(ring: &mut [u32])
-    ensures { ring.new ≡ ringStart ring.old }
+    ensures { ring.new ≡ ring_start ring.old }
 {
     set_word(ring, 0, 16);
     set_word(ring, 1, MEMORY);
@@ -281,8 +281,8 @@ fn start_ring(ring: &mut [u32])
 // A session on memories that are zero: the ring words are set.
 // Rules out: a session on a device that was not made; NEXT_CMD or STOP at 0.
 pub fn begin(ring: &mut [u32]) -> Start
-    ensures value { result ≡ readyWith (fresh memory pixels) }
-    ensures ring_after { ring.new ≡ ringStart ring.old }
+    ensures value { result ≡ ready_with (fresh memory pixels) }
+    ensures ring_after { ring.new ≡ ring_start ring.old }
 {
     start_ring(ring);
     let making = adapter::make(MEMORY, PIXELS);
@@ -310,13 +310,13 @@ pub fn feed(
     cursor: &mut [u32],
     out: &mut [u8],
 ) -> Session
-    ensures out_value { stateAfter result line (lentAfter ring framebuffer screen cursor) out
-        ≡ ifRoom s (length chunk.now) line out (fedAll (stateBefore s line (lentBefore ring framebuffer screen cursor) out) chunk.now)
-        (stateBefore s line (lentBefore ring framebuffer screen cursor) out) }
+    ensures out_value { state_after result line (lent_after ring framebuffer screen cursor) out
+        ≡ if_room s (length chunk.now) line out (fed_all (state_before s line (lent_before ring framebuffer screen cursor) out) chunk.now)
+        (state_before s line (lent_before ring framebuffer screen cursor) out) }
     ensures leaves { Leaves s result line out
-        (ifRoom s (length chunk.now) line out (lineFed (lineBefore s line) chunk.now) (lineBefore s line))
-        (ifRoom s (length chunk.now) line out
-        (fedAll (unprinted s line (lentBefore ring framebuffer screen cursor)) chunk.now).printed []) }
+        (if_room s (length chunk.now) line out (line_fed (line_before s line) chunk.now) (line_before s line))
+        (if_room s (length chunk.now) line out
+        (fed_all (unprinted s line (lent_before ring framebuffer screen cursor)) chunk.now).printed []) }
     ensures has_room { HasRoom s (length chunk.now) line out → HasRoom result 0 line out }
 {
     let good = room_for(s, chunk.len(), line.len(), out.len());
@@ -338,11 +338,11 @@ pub fn finish(
     cursor: &mut [u32],
     out: &mut [u8],
 ) -> Session
-    ensures out_value { stateAfter result line (lentAfter ring framebuffer screen cursor) out
-        ≡ ifRoom s 1 line out (ended (stateBefore s line (lentBefore ring framebuffer screen cursor) out))
-        (stateBefore s line (lentBefore ring framebuffer screen cursor) out) }
-    ensures leaves { Leaves s result line out (ifRoom s 1 line out (rested (lineBefore s line)) (lineBefore s line))
-        (ifRoom s 1 line out (ended (unprinted s line (lentBefore ring framebuffer screen cursor))).printed []) }
+    ensures out_value { state_after result line (lent_after ring framebuffer screen cursor) out
+        ≡ if_room s 1 line out (ended (state_before s line (lent_before ring framebuffer screen cursor) out))
+        (state_before s line (lent_before ring framebuffer screen cursor) out) }
+    ensures leaves { Leaves s result line out (if_room s 1 line out (rested (line_before s line)) (line_before s line))
+        (if_room s 1 line out (ended (unprinted s line (lent_before ring framebuffer screen cursor))).printed []) }
     ensures has_room { HasRoom s 1 line out → HasRoom result 0 line out }
 {
     let good = room_for(s, 1, line.len(), out.len());

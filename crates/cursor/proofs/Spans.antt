@@ -14,102 +14,102 @@ use lib.ListN.{length, get_or}
 use borrow.Author.Tests.{ltb-true, ltb-false, leb-true, leb-false, lt-ltb, le-ltb, not-true, not-false}
 use borrow.Rule.Slice.PartMut.{mid_of}
 use borrow.Table.Steps.{cases}
-use Rattle.geometry.specs.Pixels.{place_of, within, inRect}
+use Rattle.geometry.specs.Pixels.{place_of, within, in_rect}
 use Rattle.geometry.specs.Parts.{Inside}
-use Rattle.geometry.proofs.Tests.{both, same_bool, within_in, within-yes, within-past}
-use Rattle.geometry.proofs.Painted.{getD-mid, painted_same, painted-region, painted-if, refused-if}
+use Rattle.geometry.proofs.Tests.{both, same_bool, within_in, within_yes, within_past}
+use Rattle.geometry.proofs.Painted.{get_or_mid, painted_same, painted_region, painted_if_lem, refused_if}
 use Rattle.geometry.proofs.Rows.{inside, row_in}
-use Rattle.pixel.specs.Blend.{blendPixel}
+use Rattle.pixel.specs.Blend.{blend_pixel}
 use Rattle.cursor.specs.declared.Shape.{Shape}
 use Rattle.cursor.specs.declared.Span.{Span}
-use Rattle.cursor.specs.Plane.{cornerOf, offsetAt, covers, covered, cursorPixel, overlayFits, overlaid}
-use Rattle.cursor.specs.Spans.{span, at_of, skipOf, spanFrom, overlaidVisible}
+use Rattle.cursor.specs.Plane.{corner_of, offset_at, covers, covered, cursor_pixel, overlay_fits, overlaid}
+use Rattle.cursor.specs.Spans.{span, at_of, skip_of, span_from, overlaid_visible}
 
 -- ---- one axis
 
 -- before the corner the cursor has no column, and from there on they count up
-offset-cases : {P : Type 0} (z : ℤ) (k : ℕ) → (k < at_of z → lt_z (offsetAt z k) (pos 0) ≡ true → P)
-    → (at_of z ≤ k → offsetAt z k ≡ pos (k - at_of z + skipOf z) → P) → P
-offset-cases (pos zero) k out there = there (omega arith) (ap pos (omega arith))
-offset-cases (pos (suc a)) k out there =
+offset_cases : {P : Type 0} (z : ℤ) (k : ℕ) → (k < at_of z → lt_z (offset_at z k) (pos 0) ≡ true → P)
+    → (at_of z ≤ k → offset_at z k ≡ pos (k - at_of z + skip_of z) → P) → P
+offset_cases (pos zero) k out there = there (omega arith) (ap pos (omega arith))
+offset_cases (pos (suc a)) k out there =
     cases (ltb k (suc a)) (λ t. out (ltb-true k (suc a) t) (rw t)) (λ f. there (ltb-false k (suc a) f) (rw f (ap pos (omega arith))))
-offset-cases (negsuc b) k out there = there (omega arith) (ap pos (omega arith))
+offset_cases (negsuc b) k out there = there (omega arith) (ap pos (omega arith))
 
 -- the cursor covers k: k is not before the corner, and its column there is one of the cursor's
 record OnCursor (z : ℤ) (size k : ℕ) : Type 0 where
   from : at_of z ≤ k
-  ends : k - at_of z + skipOf z < size
-  offset : offsetAt z k ≡ pos (k - at_of z + skipOf z)
+  ends : k - at_of z + skip_of z < size
+  offset : offset_at z k ≡ pos (k - at_of z + skip_of z)
 
-on-cursor : (z : ℤ) (size k : ℕ) → covers z size k ≡ true → OnCursor z size k
+on_cursor : (z : ℤ) (size k : ℕ) → covers z size k ≡ true → OnCursor z size k
 unfolding covers
-on-cursor z size k t =
-    offset-cases z k
+on_cursor z size k t =
+    offset_cases z k
     (λ l e. absurd (let u = rw e at t in true≢false cc))
     (λ g e.
-    let b = rw (e, le-ltb (k - at_of z + skipOf z) 0 (omega arith)) at t in
-    record { from = g; ends = ltb-true (k - at_of z + skipOf z) size b; offset = e })
+    let b = rw (e, le-ltb (k - at_of z + skip_of z) 0 (omega arith)) at t in
+    record { from = g; ends = ltb-true (k - at_of z + skip_of z) size b; offset = e })
 
-is-on-cursor : (z : ℤ) (size k : ℕ) → at_of z ≤ k → k - at_of z + skipOf z < size → covers z size k ≡ true
+is_on_cursor : (z : ℤ) (size k : ℕ) → at_of z ≤ k → k - at_of z + skip_of z < size → covers z size k ≡ true
 unfolding covers
-is-on-cursor z size k g h =
-    offset-cases z k
+is_on_cursor z size k g h =
+    offset_cases z k
     (λ l e. absurd (omega arith))
-    (λ _ e. rw (e, le-ltb (k - at_of z + skipOf z) 0 (omega arith), lt-ltb (k - at_of z + skipOf z) size h))
+    (λ _ e. rw (e, le-ltb (k - at_of z + skip_of z) 0 (omega arith), lt-ltb (k - at_of z + skip_of z) size h))
 
 -- its column there is below its size
-pub covers_below : (z : ℤ) (size k : ℕ) → covers z size k ≡ true → nat_abs (offsetAt z k) < size
-covers_below z size k t = let v = on-cursor z size k t in rw v.offset v.ends
+pub covers_below : (z : ℤ) (size k : ℕ) → covers z size k ≡ true → nat_abs (offset_at z k) < size
+covers_below z size k t = let v = on_cursor z size k t in rw v.offset v.ends
 
 -- the span of a cursor: nothing, or from the corner on
-span-cases : (z : ℤ) (size limit : ℕ) (P : Span → Type 0) → ((limit ≤ at_of z) ⊎ (size ≤ skipOf z) → P (span 0 0 0))
-    → (at_of z < limit → skipOf z < size → P (span (at_of z) (skipOf z) (min (size - skipOf z) (limit - at_of z)))) → P (spanFrom z size limit)
-unfolding spanFrom
-span-cases z size limit P none some =
+span_cases : (z : ℤ) (size limit : ℕ) (P : Span → Type 0) → ((limit ≤ at_of z) ⊎ (size ≤ skip_of z) → P (span 0 0 0))
+    → (at_of z < limit → skip_of z < size → P (span (at_of z) (skip_of z) (min (size - skip_of z) (limit - at_of z)))) → P (span_from z size limit)
+unfolding span_from
+span_cases z size limit P none some =
     cases (leb limit (at_of z))
     (λ t. rw t (none (inl (leb-true limit (at_of z) t))))
-    (λ f. rw f (cases (leb size (skipOf z))
-    (λ t. rw t (none (inr (leb-true size (skipOf z) t))))
-    (λ g. rw g (some (leb-false limit (at_of z) f) (leb-false size (skipOf z) g)))))
+    (λ f. rw f (cases (leb size (skip_of z))
+    (λ t. rw t (none (inr (leb-true size (skip_of z) t))))
+    (λ g. rw g (some (leb-false limit (at_of z) f) (leb-false size (skip_of z) g)))))
 
 -- it lies below the limit and in the cursor
 pub span_fits : (z : ℤ) (size limit : ℕ)
-    → ((spanFrom z size limit).at + (spanFrom z size limit).n ≤ limit) × ((spanFrom z size limit).skip + (spanFrom z size limit).n ≤ size)
+    → ((span_from z size limit).at + (span_from z size limit).n ≤ limit) × ((span_from z size limit).skip + (span_from z size limit).n ≤ size)
 span_fits z size limit =
-    span-cases z size limit (λ s. (s.at + s.n ≤ limit) × (s.skip + s.n ≤ size)) (λ _. (omega arith, omega arith)) (λ a b. (omega arith, omega arith))
+    span_cases z size limit (λ s. (s.at + s.n ≤ limit) × (s.skip + s.n ≤ size)) (λ _. (omega arith, omega arith)) (λ a b. (omega arith, omega arith))
 
 module _ (z : ℤ) (size limit k : ℕ) (below : k < limit) where
   -- the columns of the span are those that are covered
-  pub covers-span : covers z size k ≡ within (spanFrom z size limit).at (spanFrom z size limit).n k
-  covers-span =
-      span-cases z size limit (λ s. covers z size k ≡ within s.at s.n k)
+  pub covers_span : covers z size k ≡ within (span_from z size limit).at (span_from z size limit).n k
+  covers_span =
+      span_cases z size limit (λ s. covers z size k ≡ within s.at s.n k)
       (λ o. cases (covers z size k)
-      (λ t. let v = on-cursor z size k t in absurd (⊎_elim (λ (e : limit ≤ at_of z). omega arith) (λ (e : size ≤ skipOf z). omega arith) o))
-      (λ f. f ∙ sym (within-past 0 0 k (omega arith))))
+      (λ t. let v = on_cursor z size k t in absurd (⊎_elim (λ (e : limit ≤ at_of z). omega arith) (λ (e : size ≤ skip_of z). omega arith) o))
+      (λ f. f ∙ sym (within_past 0 0 k (omega arith))))
       (λ a b. same_bool _ _
-      (λ t. let v = on-cursor z size k t in within-yes _ _ k v.from (omega (arith, v.ends)))
-      (λ t. let i = within_in _ _ k t in is-on-cursor z size k i.0 (omega arith)))
+      (λ t. let v = on_cursor z size k t in within_yes _ _ k v.from (omega (arith, v.ends)))
+      (λ t. let i = within_in _ _ k t in is_on_cursor z size k i.0 (omega arith)))
 
   -- and there the cursor's column counts from skip on
-  pub offset-span : covers z size k ≡ true → nat_abs (offsetAt z k) ≡ k - (spanFrom z size limit).at + (spanFrom z size limit).skip
-  offset-span t =
-      let v = on-cursor z size k t in
-      span-cases z size limit (λ s. nat_abs (offsetAt z k) ≡ k - s.at + s.skip)
-      (λ o. absurd (⊎_elim (λ (e : limit ≤ at_of z). omega arith) (λ (e : size ≤ skipOf z). omega arith) o))
+  pub offset_span : covers z size k ≡ true → nat_abs (offset_at z k) ≡ k - (span_from z size limit).at + (span_from z size limit).skip
+  offset_span t =
+      let v = on_cursor z size k t in
+      span_cases z size limit (λ s. nat_abs (offset_at z k) ≡ k - s.at + s.skip)
+      (λ o. absurd (⊎_elim (λ (e : limit ≤ at_of z). omega arith) (λ (e : size ≤ skip_of z). omega arith) o))
       (λ a b. rw v.offset)
 
 -- ---- the picture
 
 -- the pixel of the cursor over place k, by the two spans
-abbrev pub visiblePixel : ℕ → ℕ → Span → Span → List ℕ → ℕ → ℕ
-visiblePixel width w columns lines image k = get_or image (place_of w (k % width - columns.at + columns.skip) (k / width - lines.at + lines.skip)) 0
+abbrev pub visible_pixel : ℕ → ℕ → Span → Span → List ℕ → ℕ → ℕ
+visible_pixel width w columns lines image k = get_or image (place_of w (k % width - columns.at + columns.skip) (k / width - lines.at + lines.skip)) 0
 
 -- in row j the part of the image that is lent has, over each place k of the part of the picture, the cursor's pixel
-pub row-visible : (width w : ℕ) (columns lines : Span) (image : List ℕ) (j k : ℕ) → columns.at + columns.n ≤ width
+pub row_visible : (width w : ℕ) (columns lines : Span) (image : List ℕ) (j k : ℕ) → columns.at + columns.n ≤ width
     → (lines.skip + j) * w + columns.skip + columns.n ≤ length image → within ((lines.at + j) * width + columns.at) columns.n k ≡ true
     → get_or (mid_of ((lines.skip + j) * w + columns.skip) columns.n image) (k - ((lines.at + j) * width + columns.at)) 0
-    ≡ visiblePixel width w columns lines image k
-row-visible width w columns lines image j k across fits t =
+    ≡ visible_pixel width w columns lines image k
+row_visible width w columns lines image j k across fits t =
     let to = (lines.at + j) * width + columns.at in
     let b = within_in to columns.n k t in
     let r = row_in width columns.at columns.n (lines.at + j) k across t in
@@ -117,7 +117,7 @@ row-visible width w columns lines image j k across fits t =
     let d : (lines.at + j) * width + k % width ≡ k = rw r.0 at (div-add-mod' k width) in
     let e : lines.at + j - lines.at + lines.skip ≡ lines.skip + j = omega arith in
     let p : (lines.skip + j) * w + columns.skip + (k - to) ≡ (lines.skip + j) * w + (k % width - columns.at + columns.skip) = omega arith in
-    getD-mid image [] _ columns.n fits (k - to) (omega arith) ∙ rw (r.0, e, p)
+    get_or_mid image [] _ columns.n fits (k - to) (omega arith) ∙ rw (r.0, e, p)
 
 -- what fits
 pub record Fit (width rows : ℕ) (s : Shape) (pixels words : ℕ) : Type 0 where
@@ -125,68 +125,68 @@ pub record Fit (width rows : ℕ) (s : Shape) (pixels words : ℕ) : Type 0 wher
   pub long : width * rows ≤ pixels
   pub whole : s.w * s.h ≤ words
 
-pub overlay-fit : (width rows : ℕ) (s : Shape) (pixels words : ℕ) → overlayFits width rows s pixels words ≡ true → Fit width rows s pixels words
-unfolding overlayFits
-overlay-fit width rows s pixels words t =
+pub overlay_fit : (width rows : ℕ) (s : Shape) (pixels words : ℕ) → overlay_fits width rows s pixels words ≡ true → Fit width rows s pixels words
+unfolding overlay_fits
+overlay_fit width rows s pixels words t =
     let a = both (ltb 0 width) (leb (width * rows) pixels && leb (s.w * s.h) words) t in
     let b = both (leb (width * rows) pixels) (leb (s.w * s.h) words) a.1 in
     record { wide = ltb-true 0 width a.0; long = leb-true _ _ b.0; whole = leb-true _ _ b.1 }
 
 module _ (width rows : ℕ) (s : Shape) (x y : ℕ) (image old : List ℕ) where
   abbrev columns : Span
-  columns = spanFrom (cornerOf x s.hotx) s.w width
+  columns = span_from (corner_of x s.hotx) s.w width
 
   abbrev lines : Span
-  lines = spanFrom (cornerOf y s.hoty) s.h rows
+  lines = span_from (corner_of y s.hoty) s.h rows
 
   -- what is covered is the rectangle of the two spans
-  pub covered-rect : 0 < width → (k : ℕ) → covered width rows s x y k ≡ inRect width columns.at lines.at columns.n lines.n k
-  unfolding covered inRect
-  covered-rect wide k =
+  pub covered_rect : 0 < width → (k : ℕ) → covered width rows s x y k ≡ in_rect width columns.at lines.at columns.n lines.n k
+  unfolding covered in_rect
+  covered_rect wide k =
       cases (ltb (k / width) rows)
       (λ t. rw (
         t,
-        covers-span (cornerOf x s.hotx) s.w width (k % width) (mod-lt k wide),
-        covers-span (cornerOf y s.hoty) s.h rows (k / width) (ltb-true (k / width) rows t),
+        covers_span (corner_of x s.hotx) s.w width (k % width) (mod-lt k wide),
+        covers_span (corner_of y s.hoty) s.h rows (k / width) (ltb-true (k / width) rows t),
       ))
       (λ f.
-      let u = (span_fits (cornerOf y s.hoty) s.h rows).0 in
+      let u = (span_fits (corner_of y s.hoty) s.h rows).0 in
       let g = ltb-false (k / width) rows f in
-      rw (f, within-past lines.at lines.n (k / width) (omega arith), and-false))
+      rw (f, within_past lines.at lines.n (k / width) (omega arith), and-false))
 
   -- and there the cursor's pixel is that of the spans
-  pub covered-pixel : 0 < width → (k : ℕ) → covered width rows s x y k ≡ true
-      → cursorPixel width s x y image k ≡ visiblePixel width s.w columns lines image k
-  unfolding covered cursorPixel
-  covered-pixel wide k t =
+  pub covered_pixel : 0 < width → (k : ℕ) → covered width rows s x y k ≡ true
+      → cursor_pixel width s x y image k ≡ visible_pixel width s.w columns lines image k
+  unfolding covered cursor_pixel
+  covered_pixel wide k t =
       let a = both (ltb (k / width) rows) _ t in
-      let b = both (covers (cornerOf x s.hotx) s.w (k % width)) (covers (cornerOf y s.hoty) s.h (k / width)) a.1 in
+      let b = both (covers (corner_of x s.hotx) s.w (k % width)) (covers (corner_of y s.hoty) s.h (k / width)) a.1 in
       rw (
-        offset-span (cornerOf x s.hotx) s.w width (k % width) (mod-lt k wide) b.0,
-        offset-span (cornerOf y s.hoty) s.h rows (k / width) (ltb-true (k / width) rows a.0) b.1,
+        offset_span (corner_of x s.hotx) s.w width (k % width) (mod-lt k wide) b.0,
+        offset_span (corner_of y s.hoty) s.h rows (k / width) (ltb-true (k / width) rows a.0) b.1,
       )
 
   -- ---- the overlay, with what the code has: whether it fits, and the two spans
 
-  module _ (fits : Bool) (is : fits ≡ overlayFits width rows s (length old) (length image)) where
-    pub overlay-refused : not fits ≡ true → old ≡ overlaid width rows s x y image old
+  module _ (fits : Bool) (is : fits ≡ overlay_fits width rows s (length old) (length image)) where
+    pub overlay_refused : not fits ≡ true → old ≡ overlaid width rows s x y image old
     unfolding overlaid
-    overlay-refused t = sym (refused-if _ _ _ old (sym is ∙ not-true fits t))
+    overlay_refused t = sym (refused_if _ _ _ old (sym is ∙ not-true fits t))
 
     module _ (t : not fits ≡ false) (c l : Span) (is_c : c ≡ columns) (is-l : l ≡ lines) where
       known : Fit width rows s (length old) (length image)
-      known = overlay-fit width rows s (length old) (length image) (sym is ∙ not-false fits t)
+      known = overlay_fit width rows s (length old) (length image) (sym is ∙ not-false fits t)
 
-      pub visible-inside : Inside width c.at l.at c.n l.n (length old) × Inside s.w c.skip l.skip c.n l.n (length image)
-      visible-inside =
-          let u = span_fits (cornerOf x s.hotx) s.w width in
-          let v = span_fits (cornerOf y s.hoty) s.h rows in
+      pub visible_inside : Inside width c.at l.at c.n l.n (length old) × Inside s.w c.skip l.skip c.n l.n (length image)
+      visible_inside =
+          let u = span_fits (corner_of x s.hotx) s.w width in
+          let v = span_fits (corner_of y s.hoty) s.h rows in
           rw (is_c, is-l) (inside width rows _ _ _ _ _ u.0 v.0 known.long, inside s.w s.h _ _ _ _ _ u.1 v.1 known.whole)
 
-      pub overlay-is-visible : (new : List ℕ) → new ≡ overlaidVisible width s.w c l image old → new ≡ overlaid width rows s x y image old
-      unfolding overlaid overlaidVisible
-      overlay-is-visible new e =
+      pub overlay_is_visible : (new : List ℕ) → new ≡ overlaid_visible width s.w c l image old → new ≡ overlaid width rows s x y image old
+      unfolding overlaid overlaid_visible
+      overlay_is_visible new e =
           e ∙ rw (is_c, is-l)
-          (painted-region _ _ _ old (λ k h. sym (covered-rect known.wide k))
-          ∙ painted_same _ _ _ old (λ k h o. ap (λ (p : ℕ). blendPixel p (get_or old k 0)) (sym (covered-pixel known.wide k o)))
-          ∙ sym (painted-if _ _ _ old (sym is ∙ not-false fits t)))
+          (painted_region _ _ _ old (λ k h. sym (covered_rect known.wide k))
+          ∙ painted_same _ _ _ old (λ k h o. ap (λ (p : ℕ). blend_pixel p (get_or old k 0)) (sym (covered_pixel known.wide k o)))
+          ∙ sym (painted_if_lem _ _ _ old (sym is ∙ not-false fits t)))

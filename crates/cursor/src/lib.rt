@@ -2,9 +2,9 @@
 ghost use Rattle.std.specs.Prelude.{◌≡◌, ◌≤◌, length, get_or};
 ghost use Rattle.geometry.specs.Pixels.{tabulate};
 ghost use Rattle.geometry.specs.Parts.{Inside};
-ghost use Rattle.pixel.specs.Blend.{blendPixel};
-ghost use Rattle.cursor.specs.Plane.{shapeGood, signed, cornerOf, overlayFits, overlaid};
-ghost use Rattle.cursor.specs.Spans.{spanAt, spanFrom, overlaidVisible};
+ghost use Rattle.pixel.specs.Blend.{blend_pixel};
+ghost use Rattle.cursor.specs.Plane.{shape_good, signed, corner_of, overlay_fits, overlaid};
+ghost use Rattle.cursor.specs.Spans.{span_at, span_from, overlaid_visible};
 
 // The largest side of a cursor.
 pub const MAX_SIDE: u32 = 64;
@@ -40,7 +40,7 @@ struct Span {
 // Whether a command may define such a cursor.
 // Rules out: a cursor of 65 by 1 or of 0 by 1; a hotspot on the edge behind the last column.
 pub fn shape_good(shape: Shape) -> bool
-    ensures { result ≡ shapeGood shape }
+    ensures { result ≡ shape_good shape }
 {
     if shape.w < 1 {
         return false;
@@ -73,14 +73,14 @@ fn signed_of(x: u32) -> i64
 }
 
 fn corner_of(position: u32, hot: u32) -> i64
-    ensures { result ≡ cornerOf position hot }
+    ensures { result ≡ corner_of position hot }
 {
     signed_of(position) - (hot as i64)
 }
 
 // Of the cursor's columns from skip to below size, those that fit from column at of the picture to below limit.
 fn span_at(at: u64, skip: u64, size: u32, limit: u32) -> Span
-    ensures { result ≡ spanAt at skip size limit }
+    ensures { result ≡ span_at at skip size limit }
 {
     if limit as u64 <= at {
         return Span {
@@ -116,7 +116,7 @@ fn span_at(at: u64, skip: u64, size: u32, limit: u32) -> Span
 
 // Of size columns from the corner on, those from 0 to below limit.
 fn span_of(position: u32, hot: u32, size: u32, limit: u32) -> Span
-    ensures { result ≡ spanFrom (cornerOf position hot) size limit }
+    ensures { result ≡ span_from (corner_of position hot) size limit }
 {
     let corner = corner_of(position, hot);
     if corner < 0 {
@@ -130,7 +130,7 @@ fn span_of(position: u32, hot: u32, size: u32, limit: u32) -> Span
 // One row: each cursor pixel blended over the picture's.
 fn blend_row(row: &mut [u32], pixels: &[u32])
     requires { length row.old ≤ length pixels.now }
-    ensures { row.new ≡ tabulate (length row.old) (λ i. blendPixel (get_or pixels.now i 0) (get_or row.old i 0)) }
+    ensures { row.new ≡ tabulate (length row.old) (λ i. blend_pixel (get_or pixels.now i 0) (get_or row.old i 0)) }
 {
     let mut i = 0;
     while i < row.len() {
@@ -150,7 +150,7 @@ fn overlay_visible(
 )
     requires inside { Inside width columns.at lines.at columns.n lines.n (length picture.old) }
     requires inside_2 { Inside w columns.skip lines.skip columns.n lines.n (length image.now) }
-    ensures { picture.new ≡ overlaidVisible width w columns lines image.now picture.old }
+    ensures { picture.new ≡ overlaid_visible width w columns lines image.now picture.old }
 {
     let step = width as usize;
     let pitch = w as usize;
@@ -172,7 +172,7 @@ fn overlay_visible(
 }
 
 fn overlay_fits(width: u32, rows: u32, shape: Shape, pixels: usize, words: usize) -> bool
-    ensures { result ≡ overlayFits width rows shape pixels words }
+    ensures { result ≡ overlay_fits width rows shape pixels words }
 {
     if width <= 0 {
         return false;

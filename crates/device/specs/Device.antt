@@ -4,7 +4,7 @@ use Rattle.std.specs.Prelude.{ℕ, ◌*◌, ◌/◌, ◌%◌, Bool, true, false,
 use Rattle.geometry.specs.declared.Frame.{Frame}
 use Rattle.raster.specs.Painters as Painters
 use Rattle.ring.specs.Waiting.{placed}
-use Rattle.cursor.specs.Plane.{shapeGood}
+use Rattle.cursor.specs.Plane.{shape_good}
 use Rattle.device.specs.declared.Registers.{Registers}
 use Rattle.device.specs.declared.Plane.{Plane}
 use Rattle.cursor.specs.declared.Defined.{Defined}
@@ -15,58 +15,58 @@ use Rattle.device.specs.declared.Device.{Device}
 
 -- ---- for other crates: what a device is made for, and its mode
 
-abbrev pub memoryOf : Device → ℕ
-memoryOf d = d.sizes.memory
+abbrev pub memory_of : Device → ℕ
+memory_of d = d.sizes.memory
 
-abbrev pub pixelsOf : Device → ℕ
-pixelsOf d = d.sizes.pixels
+abbrev pub pixels_of : Device → ℕ
+pixels_of d = d.sizes.pixels
 
 abbrev pub width_of : Device → ℕ
 width_of d = d.registers.width
 
-abbrev pub heightOf : Device → ℕ
-heightOf d = d.registers.height
+abbrev pub height_of : Device → ℕ
+height_of d = d.registers.height
 
 -- Document 02, P5: "the mode joined with P4's rectangle, in the lent screen": as many rows of the mode's width as lie whole in P pixels. Behind them P mod
 -- width pixels are left, which nothing paints. (A width of 0, which no device has, gives none.)
 abbrev pub rows_of : Device → ℕ
-rows_of d = pixelsOf d / width_of d
+rows_of d = pixels_of d / width_of d
 
 -- What commands reach of the screen: UPDATE the mode, fills and copies all these rows.
 abbrev pub frame_of : Device → Frame
-frame_of d = record { width = width_of d; height = heightOf d; rows = rows_of d }
+frame_of d = record { width = width_of d; height = height_of d; rows = rows_of d }
 
-abbrev pub enabledOf : Device → Bool
-enabledOf d = d.registers.enable
+abbrev pub enabled_of : Device → Bool
+enabled_of d = d.registers.enable
 
-abbrev pub configuredOf : Device → Bool
-configuredOf d = d.registers.config
+abbrev pub configured_of : Device → Bool
+configured_of d = d.registers.config
 
-abbrev pub definedOf : Device → Defined
-definedOf d = d.marks.defined
+abbrev pub defined_of : Device → Defined
+defined_of d = d.marks.defined
 
-abbrev pub conditionOf : Device → Condition
-conditionOf d = d.condition
+abbrev pub condition_of : Device → Condition
+condition_of d = d.condition
 
 -- ---- making
 
 -- "M is a multiple of 4 from 10,256 to 2,097,152; P is 1 to 4,096,000"
-abbrev pub minMemory : ℕ
-minMemory = 10256
+abbrev pub min_memory : ℕ
+min_memory = 10256
 
-abbrev pub maxMemory : ℕ
-maxMemory = 2097152
+abbrev pub max_memory : ℕ
+max_memory = 2097152
 
-abbrev pub maxPixels : ℕ
-maxPixels = 4096000
+abbrev pub max_pixels : ℕ
+max_pixels = 4096000
 
-unfoldable pub sizesGood : ℕ → ℕ → Bool
-sizesGood memory pixels = eqb (memory % 4) 0 && (leb minMemory memory && (leb memory maxMemory && (leb 1 pixels && leb pixels maxPixels)))
+unfoldable pub sizes_good : ℕ → ℕ → Bool
+sizes_good memory pixels = eqb (memory % 4) 0 && (leb min_memory memory && (leb memory max_memory && (leb 1 pixels && leb pixels max_pixels)))
 
 -- "Fresh: id 0x90000000, mode 640 by 480, disabled, not configured, no fault, not busy, fence 0, other written registers 0,
 -- cursor undefined and hidden."
-abbrev pub freshRegisters : Registers
-freshRegisters = record {
+abbrev pub fresh_registers : Registers
+fresh_registers = record {
   id = 0x90000000;
   enable = false;
   width = 640;
@@ -82,7 +82,7 @@ freshRegisters = record {
 abbrev pub fresh : ℕ → ℕ → Device
 fresh memory pixels = record {
   sizes = record { memory = memory; pixels = pixels };
-  registers = freshRegisters;
+  registers = fresh_registers;
   plane = record { shown = false; id = 0; x = 0; y = 0 };
   marks = record { fence = 0; defined = Undefined };
   busy = false;
@@ -92,41 +92,41 @@ fresh memory pixels = record {
 -- ---- well-formed devices: a test that `make` meets and every call keeps
 
 -- "4 and 5 maximum width and height (2,560; 1,600)"
-abbrev pub maxWidth : ℕ
-maxWidth = Painters.maxWidth
+abbrev pub max_width : ℕ
+max_width = Painters.max_width
 
-abbrev pub maxHeight : ℕ
-maxHeight = 1600
+abbrev pub max_height : ℕ
+max_height = 1600
 
 -- "2 WIDTH (1 to 2,560), 3 HEIGHT (1 to 1,600)"
-unfoldable pub modeGood : ℕ → ℕ → Bool
-modeGood width height = leb 1 width && (leb width maxWidth && (leb 1 height && leb height maxHeight))
+unfoldable pub mode_good : ℕ → ℕ → Bool
+mode_good width height = leb 1 width && (leb width max_width && (leb 1 height && leb height max_height))
 
 -- "width·height above P" is 24; otherwise the mode's rows fit framebuffer and screen.
-abbrev pub modeFits : Device → Bool
-modeFits d = leb (width_of d * heightOf d) (pixelsOf d)
+abbrev pub mode_fits : Device → Bool
+mode_fits d = leb (width_of d * height_of d) (pixels_of d)
 
 -- A device with CONFIG_DONE 1 has a ring, or a fault that stands; with CONFIG_DONE 0 it has no ring.
-unfoldable pub conditionGood : ℕ → Bool → Condition → Bool
-conditionGood memory config Idle = not config
-conditionGood memory config (Running g) = cond config (placed g (memory / 4)) false
-conditionGood memory config (Faulted c) = true
+unfoldable pub condition_good : ℕ → Bool → Condition → Bool
+condition_good memory config Idle = not config
+condition_good memory config (Running g) = cond config (placed g (memory / 4)) false
+condition_good memory config (Faulted c) = true
 
 -- The defined cursor is one that a command may define.
-unfoldable pub definedGood : Defined → Bool
-unfolding shapeGood
-definedGood Undefined = true
-definedGood (Cursor s) = shapeGood s
+unfoldable pub defined_good : Defined → Bool
+unfolding shape_good
+defined_good Undefined = true
+defined_good (Cursor s) = shape_good s
 
-unfoldable pub wellFormed : Device → Bool
-wellFormed d =
-    sizesGood (memoryOf d) (pixelsOf d)
-    && (modeGood (width_of d) (heightOf d) && (conditionGood (memoryOf d) d.registers.config d.condition && definedGood (definedOf d)))
+unfoldable pub well_formed : Device → Bool
+well_formed d =
+    sizes_good (memory_of d) (pixels_of d)
+    && (mode_good (width_of d) (height_of d) && (condition_good (memory_of d) d.registers.config d.condition && defined_good (defined_of d)))
 
 -- ---- a device with one part changed
 
-abbrev pub withRegisters : Device → Registers → Device
-withRegisters d g = record {
+abbrev pub with_registers : Device → Registers → Device
+with_registers d g = record {
   sizes = d.sizes;
   registers = g;
   plane = d.plane;
@@ -135,8 +135,8 @@ withRegisters d g = record {
   condition = d.condition;
 }
 
-abbrev pub withPlane : Device → Plane → Device
-withPlane d p = record {
+abbrev pub with_plane : Device → Plane → Device
+with_plane d p = record {
   sizes = d.sizes;
   registers = d.registers;
   plane = p;
@@ -145,8 +145,8 @@ withPlane d p = record {
   condition = d.condition;
 }
 
-abbrev pub withBusy : Device → Bool → Device
-withBusy d b = record {
+abbrev pub with_busy : Device → Bool → Device
+with_busy d b = record {
   sizes = d.sizes;
   registers = d.registers;
   plane = d.plane;
@@ -155,8 +155,8 @@ withBusy d b = record {
   condition = d.condition;
 }
 
-abbrev pub withCondition : Device → Condition → Device
-withCondition d c = record {
+abbrev pub with_condition : Device → Condition → Device
+with_condition d c = record {
   sizes = d.sizes;
   registers = d.registers;
   plane = d.plane;

@@ -2,7 +2,7 @@
 use Rattle.std.specs.Prelude.{ℕ, cond}
 use Rattle.std.proofs.Math.Option.{Option, none, some}
 use Rattle.device.specs.declared.Device.{Device}
-use Rattle.device.specs.Device.{sizesGood, fresh}
+use Rattle.device.specs.Device.{sizes_good, fresh}
 use Rattle.device.specs.declared.Making.{Making}
 use Rattle.device.specs.declared.Making.TheVariants.{Made, Refused}
 
@@ -18,4 +18,4 @@ creation Refused = record { answer = 34; device = none }
 -- "otherwise answer 34", and then "making yields no device"
 unfoldable pub made_of : ℕ → ℕ → Creation
 made_of memory pixels =
-    cond (sizesGood memory pixels) (record { answer = 0; device = some (fresh memory pixels) }) (record { answer = 34; device = none })
+    cond (sizes_good memory pixels) (record { answer = 0; device = some (fresh memory pixels) }) (record { answer = 34; device = none })

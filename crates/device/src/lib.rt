@@ -1,6 +1,6 @@
 // The device: its parts, the test of a well-formed one, making.
 ghost use Rattle.std.specs.Prelude.{◌≡◌};
-ghost use Rattle.device.specs.Device.{frame_of, sizesGood, modeGood, conditionGood, definedGood, wellFormed, modeFits, conditionOf};
+ghost use Rattle.device.specs.Device.{frame_of, sizes_good, mode_good, condition_good, defined_good, well_formed, mode_fits, condition_of};
 ghost use Rattle.device.specs.Making.{creation, made_of};
 
 use cursor::Defined;
@@ -78,7 +78,7 @@ pub enum Making {
 // ---- well-formed devices
 
 fn sizes_good(memory: u32, pixels: u32) -> bool
-    ensures { result ≡ sizesGood memory pixels }
+    ensures { result ≡ sizes_good memory pixels }
 {
     if memory % 4 != 0 {
         return false;
@@ -96,7 +96,7 @@ fn sizes_good(memory: u32, pixels: u32) -> bool
 }
 
 fn mode_good(width: u32, height: u32) -> bool
-    ensures { result ≡ modeGood width height }
+    ensures { result ≡ mode_good width height }
 {
     if width < 1 {
         return false;
@@ -111,7 +111,7 @@ fn mode_good(width: u32, height: u32) -> bool
 }
 
 fn condition_good(memory: u32, config: bool, condition: Condition) -> bool
-    ensures { result ≡ conditionGood memory config condition }
+    ensures { result ≡ condition_good memory config condition }
 {
     match condition {
         Condition::Idle => {
@@ -130,7 +130,7 @@ fn condition_good(memory: u32, config: bool, condition: Condition) -> bool
 }
 
 fn defined_good(defined: Defined) -> bool
-    ensures { result ≡ definedGood defined }
+    ensures { result ≡ defined_good defined }
 {
     match defined {
         Defined::Undefined => {
@@ -145,7 +145,7 @@ fn defined_good(defined: Defined) -> bool
 // Whether a device has what every call keeps: sizes, mode, ring, condition and cursor in their ranges and agreeing.
 // Rules out: a device with CONFIG_DONE 1 and no ring; a mode of 2,561 pixels to a row.
 pub fn is_well_formed(d: Device) -> bool
-    ensures { result ≡ wellFormed d }
+    ensures { result ≡ well_formed d }
 {
     let sizes = d.sizes;
     let good_sizes = sizes_good(sizes.memory, sizes.pixels);
@@ -213,7 +213,7 @@ pub fn make(memory: u32, pixels: u32) -> Making
 // Whether the mode's pixels are at most P.
 // Rules out: a mode of 65,536 by 65,536 that fits since its product wraps; a mode of exactly P pixels that does not.
 pub fn mode_fits(d: Device) -> bool
-    ensures { result ≡ modeFits d }
+    ensures { result ≡ mode_fits d }
 {
     let sizes = d.sizes;
     let g = d.registers;
@@ -246,7 +246,7 @@ pub fn frame_of(d: Device) -> Frame
 // The condition: idle, running with the remembered ring, or the fault that stands.
 // Rules out: a fault that is told as idle; a ring that is not the remembered one.
 pub fn condition_of(d: Device) -> Condition
-    ensures { result ≡ conditionOf d }
+    ensures { result ≡ condition_of d }
 {
     d.condition
 }

@@ -1,11 +1,11 @@
 // A run of a device: its refusals, and what it leaves.
-ghost use Rattle.execution.specs.Claim.{ended, answerNumber};
+ghost use Rattle.execution.specs.Claim.{ended, answer_number};
 ghost use Rattle.run.specs.Run.{answer_of};
 ghost use Rattle.device.specs.declared.Condition.TheVariants.{Running};
-ghost use Rattle.device.specs.Device.{modeFits, wellFormed};
+ghost use Rattle.device.specs.Device.{mode_fits, well_formed};
 ghost use Rattle.std.specs.Prelude.{◌≡◌, true};
-ghost use Rattle.device_run.specs.Run.{runNumber, lentBefore, lentAfter, ranOf, lentGood, ready};
-ghost use Rattle.device_run.specs.Run.{conditionAfter, busyAfter, run_by, run_of};
+ghost use Rattle.device_run.specs.Run.{run_number, lent_before, lent_after, ran_of, lent_good, ready};
+ghost use Rattle.device_run.specs.Run.{condition_after, busy_after, run_by, run_of};
 ghost use Rattle.device_run.specs.Settling.{Settles};
 
 use cursor::IMAGE_WORDS;
@@ -37,7 +37,7 @@ pub struct Ran {
 
 // Rules out: 1 for a spent budget; 23 for a fault that this run met.
 pub fn run_number(answer: RunAnswer) -> u32
-    ensures { result ≡ runNumber answer }
+    ensures { result ≡ run_number answer }
 {
     match answer {
         RunAnswer::Spent => 2,
@@ -64,7 +64,7 @@ fn refused(d: Device, answer: RunAnswer) -> Ran
 }
 
 fn lent_good(d: Device, ring: &[u32], framebuffer: &[u32], screen: &[u32], cursor: &[u32]) -> bool
-    ensures { result ≡ lentGood d (lentBefore ring framebuffer screen cursor) }
+    ensures { result ≡ lent_good d (lent_before ring framebuffer screen cursor) }
 {
     let sizes = d.sizes;
     let pixels = sizes.pixels as usize;
@@ -81,7 +81,7 @@ fn lent_good(d: Device, ring: &[u32], framebuffer: &[u32], screen: &[u32], curso
 }
 
 fn condition_at(end: End, ring: Ring) -> Condition
-    ensures { result ≡ conditionAfter (ended end) ring }
+    ensures { result ≡ condition_after (ended end) ring }
 {
     match end {
         End::Drained => Condition::Running(ring),
@@ -92,7 +92,7 @@ fn condition_at(end: End, ring: Ring) -> Condition
 
 // A fault stands, or the ring is remembered with STOP as the run left it.
 fn condition_after(answer: RunEnd, ring: Ring) -> Condition
-    ensures { result ≡ conditionAfter (answer_of answer) ring }
+    ensures { result ≡ condition_after (answer_of answer) ring }
 {
     match answer {
         RunEnd::Spent => Condition::Running(ring),
@@ -101,7 +101,7 @@ fn condition_after(answer: RunEnd, ring: Ring) -> Condition
 }
 
 fn busy_after(answer: RunEnd, busy: bool) -> bool
-    ensures { result ≡ busyAfter (answer_of answer) busy }
+    ensures { result ≡ busy_after (answer_of answer) busy }
 {
     match answer {
         RunEnd::Spent => busy,
@@ -110,7 +110,7 @@ fn busy_after(answer: RunEnd, busy: bool) -> bool
 }
 
 fn answer_of(answer: RunEnd) -> RunAnswer
-    ensures { runNumber result ≡ answerNumber (answer_of answer) }
+    ensures { run_number result ≡ answer_number (answer_of answer) }
 {
     match answer {
         RunEnd::Spent => RunAnswer::Spent,
@@ -148,8 +148,8 @@ fn run_ring(
     cursor: &mut [u32],
     budget: u32,
 ) -> Ran
-    requires { (wellFormed d ≡ true) × (modeFits d ≡ true) }
-    ensures { ranOf result (lentAfter ring framebuffer screen cursor) ≡ run_by d (lentBefore ring framebuffer screen cursor) budget (Running at) }
+    requires { (well_formed d ≡ true) × (mode_fits d ≡ true) }
+    ensures { ran_of result (lent_after ring framebuffer screen cursor) ≡ run_by d (lent_before ring framebuffer screen cursor) budget (Running at) }
 {
     let marks = d.marks;
     let frame = device::frame_of(d);
@@ -167,7 +167,7 @@ pub fn run(
     cursor: &mut [u32],
     budget: u32,
 ) -> Ran
-    ensures { ranOf result (lentAfter ring framebuffer screen cursor) ≡ run_of d (lentBefore ring framebuffer screen cursor) budget }
+    ensures { ran_of result (lent_after ring framebuffer screen cursor) ≡ run_of d (lent_before ring framebuffer screen cursor) budget }
 {
     let good = is_well_formed(d);
     if !good {
@@ -205,7 +205,7 @@ pub fn is_ready(
     screen: &[u32],
     cursor: &[u32],
 ) -> bool
-    ensures { result ≡ ready d (lentBefore ring framebuffer screen cursor) }
+    ensures { result ≡ ready d (lent_before ring framebuffer screen cursor) }
 {
     let good = is_well_formed(d);
     if !good {

@@ -11,16 +11,16 @@ use native.Mathlib.Omega.{arith}
 use native.Mathlib.Nat.{not-suc-le-zero, le_of_suc-le-suc}
 use Rattle.device.specs.declared.Device.{Device}
 use Rattle.device_words.specs.declared.Held.TheVariants.{Device as Holds, Nothing}
-use Rattle.device_words.specs.Words.{wordsOf, deviceFrom, same, spelledIn}
+use Rattle.device_words.specs.Words.{words_of, device_from, same, spelled_in}
 
 -- One word more agrees exactly if all before it do and it does.
-same-snoc : (a w : List ℕ) (i : ℕ) → i < length a → i < length w
+same_snoc : (a w : List ℕ) (i : ℕ) → i < length a → i < length w
     → same (take (suc i) a) (take (suc i) w) ≡ same (take i a) (take i w) && eqb (get_or a i 0) (get_or w i 0)
-same-snoc [] w i ha hw = absurd (not-suc-le-zero ha)
-same-snoc (x ∷ a) [] i ha hw = absurd (not-suc-le-zero hw)
-same-snoc (x ∷ a) (y ∷ w) zero ha hw = and-true (eqb x y)
-same-snoc (x ∷ a) (y ∷ w) (suc i) ha hw =
-    ap (λ b. eqb x y && b) (same-snoc a w i (le_of_suc-le-suc ha) (le_of_suc-le-suc hw))
+same_snoc [] w i ha hw = absurd (not-suc-le-zero ha)
+same_snoc (x ∷ a) [] i ha hw = absurd (not-suc-le-zero hw)
+same_snoc (x ∷ a) (y ∷ w) zero ha hw = and-true (eqb x y)
+same_snoc (x ∷ a) (y ∷ w) (suc i) ha hw =
+    ap (λ b. eqb x y && b) (same_snoc a w i (le_of_suc-le-suc ha) (le_of_suc-le-suc hw))
     ∙ sym (and_assoc (eqb x y) (same (take i a) (take i w)) (eqb (get_or a i 0) (get_or w i 0)))
 
 none_more : (n : ℕ) (b : Bool) → eqb (n + cond b 0 1) 0 ≡ eqb n 0 && b
@@ -38,7 +38,7 @@ pub same_more : (a w : List ℕ) (i n d : ℕ) → i < length a → i < length w
     → d ≡ cond (eqb (get_or a i 0) (get_or w i 0)) 0 1 → eqb (n + d) 0 ≡ same (take (i + 1) a) (take (i + 1) w)
 same_more a w i n d ha hw h e =
     ap (λ k. eqb (n + k) 0) e ∙ none_more n (eqb (get_or a i 0) (get_or w i 0))
-    ∙ ap (λ b. b && eqb (get_or a i 0) (get_or w i 0)) h ∙ sym (same-snoc a w i ha hw)
+    ∙ ap (λ b. b && eqb (get_or a i 0) (get_or w i 0)) h ∙ sym (same_snoc a w i ha hw)
     ∙ ap (λ k. same (take k a) (take k w)) {x = suc i} {y = i + 1} (omega arith)
 
 pub same_whole : (a w : List ℕ) (n : ℕ) → length a ≤ n → length w ≤ n → same (take n a) (take n w) ≡ same a w
@@ -51,17 +51,17 @@ paste_more d s j hd hs =
     ∙ ap (λ k. paste d 0 s k) {x = suc j} {y = j + 1} (omega arith)
 
 -- A copy of all n words.
-pub paste-whole : (d s : List ℕ) (n : ℕ) → length d ≡ n → length s ≡ n → paste d 0 s n ≡ s
-paste-whole d s n hd hs =
+pub paste_whole : (d s : List ℕ) (n : ℕ) → length d ≡ n → length s ≡ n → paste d 0 s n ≡ s
+paste_whole d s n hd hs =
     ap (λ k. take n s ++ k) (ap (λ m. drop m d) {x = 0 + n} {y = length d} (omega (arith, hd)) ∙ drop-length d) ∙ append-nil (take n s) ∙ take_all n s (omega (arith, hs))
 
 -- ---- the device in lent words
 
-module _ (w : List ℕ) (d : Device) (whole : length w ≡ 64) (from : d ≡ deviceFrom w) where
-  pub spelled-other : (k : Bool) → k ≡ same (wordsOf d) w → k ≡ false → spelledIn w ≡ Nothing
-  unfolding spelledIn
-  spelled-other k e f = rw (eq-eqb (length w) 64 whole, ← from, ← e, f)
+module _ (w : List ℕ) (d : Device) (whole : length w ≡ 64) (from : d ≡ device_from w) where
+  pub spelled_other : (k : Bool) → k ≡ same (words_of d) w → k ≡ false → spelled_in w ≡ Nothing
+  unfolding spelled_in
+  spelled_other k e f = rw (eq-eqb (length w) 64 whole, ← from, ← e, f)
 
-  pub spelled : (k : Bool) → k ≡ same (wordsOf d) w → k ≡ true → spelledIn w ≡ Holds d
-  unfolding spelledIn
+  pub spelled : (k : Bool) → k ≡ same (words_of d) w → k ≡ true → spelled_in w ≡ Holds d
+  unfolding spelled_in
   spelled k e f = rw (eq-eqb (length w) 64 whole, ← from, ← e, f)

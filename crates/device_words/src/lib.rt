@@ -1,7 +1,7 @@
 // A device as 64 words: what a host in another language keeps between calls, and lends for each.
 ghost use Rattle.std.specs.Prelude.{◌≡◌, cond, eqb, length, replicate};
 ghost use Rattle.register_read.specs.Registers.{bit};
-ghost use Rattle.device_words.specs.Words.{definedParts, conditionParts, settingWords, wordsOf, definedFrom, conditionFrom, deviceFrom, same, spelledIn, put_in};
+ghost use Rattle.device_words.specs.Words.{defined_parts, condition_parts, setting_words, words_of, defined_from, condition_from, device_from, same, spelled_in, put_in};
 
 use adapter::{Condition, Device, Plane, Registers, Sizes};
 use cursor::{Defined, Shape};
@@ -42,7 +42,7 @@ fn bit_of(b: bool) -> u32
 }
 
 fn defined_words(defined: Defined) -> DefinedWords
-    ensures { result ≡ definedParts defined }
+    ensures { result ≡ defined_parts defined }
 {
     match defined {
         Defined::Undefined => {
@@ -62,7 +62,7 @@ fn defined_words(defined: Defined) -> DefinedWords
 }
 
 fn condition_words(condition: Condition) -> ConditionWords
-    ensures { result ≡ conditionParts condition }
+    ensures { result ≡ condition_parts condition }
 {
     let none = Ring {
         min: 0,
@@ -87,7 +87,7 @@ fn condition_words(condition: Condition) -> ConditionWords
 
 // The words of the sizes, the registers and the cursor plane; the others are 0.
 fn settings_of(d: Device) -> [u32; 64]
-    ensures { result ≡ settingWords d (replicate 48 0) }
+    ensures { result ≡ setting_words d (replicate 48 0) }
 {
     let sizes = d.sizes;
     let g = d.registers;
@@ -113,7 +113,7 @@ fn settings_of(d: Device) -> [u32; 64]
 }
 
 fn words_of(d: Device) -> [u32; 64]
-    ensures { result ≡ wordsOf d }
+    ensures { result ≡ words_of d }
 {
     let marks = d.marks;
     let defined = marks.defined;
@@ -141,7 +141,7 @@ fn words_of(d: Device) -> [u32; 64]
 // ---- from words to a device
 
 fn defined_from(tag: u32, shape: Shape) -> Defined
-    ensures { result ≡ definedFrom tag shape }
+    ensures { result ≡ defined_from tag shape }
 {
     if tag == 1 {
         return Defined::Cursor(shape);
@@ -150,7 +150,7 @@ fn defined_from(tag: u32, shape: Shape) -> Defined
 }
 
 fn condition_from(tag: u32, ring: Ring) -> Condition
-    ensures { result ≡ conditionFrom tag ring }
+    ensures { result ≡ condition_from tag ring }
 {
     if tag == 1 {
         return Condition::Running(ring);
@@ -172,7 +172,7 @@ fn condition_from(tag: u32, ring: Ring) -> Condition
 
 fn device_from(w: &[u32]) -> Device
     requires { length w.now ≡ 64 }
-    ensures { result ≡ deviceFrom w.now }
+    ensures { result ≡ device_from w.now }
 {
     let sizes = Sizes {
         memory: w[0],
@@ -250,7 +250,7 @@ fn are_same(a: &[u32], w: &[u32]) -> bool
 // The device that the lent words spell. Whether it is well-formed its callers test.
 // Rules out: a device in 63 words; a device where a spare word is not 0.
 pub fn spelled_in(w: &[u32]) -> Held
-    ensures { result ≡ spelledIn w.now }
+    ensures { result ≡ spelled_in w.now }
 {
     if w.len() != 64 {
         return Held::Nothing;

@@ -10,30 +10,30 @@ use borrow.Author.Tests.{lt-ltb}
 use borrow.Table.Steps.{cases}
 use Rattle.geometry.specs.declared.Frame.{Frame}
 use Rattle.geometry.specs.declared.Rect.{Rect}
-use Rattle.geometry.specs.Pixels.{in_area, paintedIf}
-use Rattle.geometry.proofs.Painted.{painted-region, painted-if, refused-if}
-use Rattle.raster.specs.Painters.{filledIn, filled, sourceColumn, sourceRow, moves, copiedIn, copied}
-use Rattle.raster.proofs.Cuts.{rows_fit}
+use Rattle.geometry.specs.Pixels.{in_area, painted_if}
+use Rattle.geometry.proofs.Painted.{painted_region, painted_if_lem, refused_if}
+use Rattle.raster.specs.Painters.{filled_in, filled, source_column, source_row, moves, copied_in, copied}
+use Rattle.raster.proofs.Cuts.{rows_fit_lem}
 use Rattle.command.specs.declared.Source.{Source}
 use Rattle.command.specs.declared.Action.TheVariants.{Fill, Copy}
-use Rattle.effect.specs.Effects.{Scene, scene, reached, copies, screenAfter}
+use Rattle.effect.specs.Effects.{Scene, scene, reached, copies, screen_after}
 
 -- a painter that may be refused is the same at the same places
-region-if : (fits : Bool) (R Q : ℕ → Bool) (new : ℕ → ℕ) (old : List ℕ) → (fits ≡ true → (k : ℕ) → R k ≡ Q k)
-    → paintedIf fits R new old ≡ paintedIf fits Q new old
-region-if fits R Q new old same =
+region_if : (fits : Bool) (R Q : ℕ → Bool) (new : ℕ → ℕ) (old : List ℕ) → (fits ≡ true → (k : ℕ) → R k ≡ Q k)
+    → painted_if fits R new old ≡ painted_if fits Q new old
+region_if fits R Q new old same =
     cases fits
-    (λ t. painted-if fits R new old t ∙ painted-region R Q new old (λ k h. same t k) ∙ sym (painted-if fits Q new old t))
-    (λ f. refused-if fits R new old f ∙ sym (refused-if fits Q new old f))
+    (λ t. painted_if_lem fits R new old t ∙ painted_region R Q new old (λ k h. same t k) ∙ sym (painted_if_lem fits Q new old t))
+    (λ f. refused_if fits R new old f ∙ sym (refused_if fits Q new old f))
 
 module _ (f : Frame) (framebuffer : List ℕ) (posts : Bool) (r : Rect) where
   abbrev by_rows : Scene
   by_rows = scene f framebuffer posts
 
   -- a place's column is below the width anyhow
-  in-area : 0 < f.width → (k : ℕ) → reached by_rows r k ≡ in_area f.width f.rows r k
+  in_area_lem : 0 < f.width → (k : ℕ) → reached by_rows r k ≡ in_area f.width f.rows r k
   unfolding reached in_area
-  in-area wide k = rw (lt-ltb (k % f.width) f.width (mod-lt k wide))
+  in_area_lem wide k = rw (lt-ltb (k % f.width) f.width (mod-lt k wide))
 
   moving : (from : Source) → 0 < f.width → (k : ℕ) → copies by_rows from r k ≡ moves f.width f.rows from.x from.y r k
   unfolding copies moves
@@ -41,15 +41,15 @@ module _ (f : Frame) (framebuffer : List ℕ) (posts : Bool) (r : Rect) where
       ap
       (λ (t : Bool).
       t
-      && (ltb (sourceColumn f.width from.x r.x k) f.width && ltb (sourceRow f.width from.y r.y k) f.rows))
-      (in-area wide k)
+      && (ltb (source_column f.width from.x r.x k) f.width && ltb (source_row f.width from.y r.y k) f.rows))
+      (in_area_lem wide k)
 
-  pub fill-by-rows : (colour rop : ℕ) (screen : List ℕ)
-      → screenAfter by_rows (Fill r colour rop) screen ≡ filled f.width f.rows r colour rop screen
-  unfolding screenAfter filledIn filled
-  fill-by-rows colour rop screen = region-if _ _ _ _ screen (λ t. in-area (rows_fit _ _ _ t).wide)
+  pub fill_by_rows : (colour rop : ℕ) (screen : List ℕ)
+      → screen_after by_rows (Fill r colour rop) screen ≡ filled f.width f.rows r colour rop screen
+  unfolding screen_after filled_in filled
+  fill_by_rows colour rop screen = region_if _ _ _ _ screen (λ t. in_area_lem (rows_fit_lem _ _ _ t).wide)
 
-  pub copy-by-rows : (from : Source) (rop : ℕ) (screen : List ℕ)
-      → screenAfter by_rows (Copy from r rop) screen ≡ copied f.width f.rows from.x from.y r rop screen
-  unfolding screenAfter copiedIn copied
-  copy-by-rows from rop screen = region-if _ _ _ _ screen (λ t. moving from (rows_fit _ _ _ t).wide)
+  pub copy_by_rows : (from : Source) (rop : ℕ) (screen : List ℕ)
+      → screen_after by_rows (Copy from r rop) screen ≡ copied f.width f.rows from.x from.y r rop screen
+  unfolding screen_after copied_in copied
+  copy_by_rows from rop screen = region_if _ _ _ _ screen (λ t. moving from (rows_fit_lem _ _ _ t).wide)

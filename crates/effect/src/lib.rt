@@ -2,7 +2,7 @@
 // word 6 is the run's to write.
 ghost use Rattle.std.specs.Prelude.{◌≡◌, Bool};
 ghost use Rattle.raster.specs.Painters.{filled, copied};
-ghost use Rattle.effect.specs.Effects.{scene, screenAfter, fenceAfter, definedAfter, marksAfter};
+ghost use Rattle.effect.specs.Effects.{scene, screen_after, fence_after, defined_after, marks_after};
 
 use command::Action;
 use cursor::Defined;
@@ -46,7 +46,7 @@ fn copy(
 // The screen's part of an action, whether fences are posted or not. An update keeps to the mode; fills and copies reach all rows.
 // Rules out: a fill that reads the framebuffer; an update that paints offscreen rows; a copy that ends at the mode's last row.
 pub fn draw(action: Action, framebuffer: &[u32], screen: &mut [u32], frame: Frame)
-    ensures { (posts : Bool) → screen.new ≡ screenAfter (scene frame framebuffer.now posts) action screen.old }
+    ensures { (posts : Bool) → screen.new ≡ screen_after (scene frame framebuffer.now posts) action screen.old }
 {
     match action {
         Action::Update(area) => raster::update(
@@ -67,7 +67,7 @@ pub fn draw(action: Action, framebuffer: &[u32], screen: &mut [u32], frame: Fram
 // The last fence after an action.
 // Rules out: a fence of 0 left out; an update that clears it.
 pub fn fence_after(action: Action, fence: u32) -> u32
-    ensures { result ≡ fenceAfter action fence }
+    ensures { result ≡ fence_after action fence }
 {
     match action {
         Action::Update(_) => fence,
@@ -81,7 +81,7 @@ pub fn fence_after(action: Action, fence: u32) -> u32
 
 // The defined cursor after an action.
 fn defined_after(action: Action, defined: Defined) -> Defined
-    ensures { result ≡ definedAfter action defined }
+    ensures { result ≡ defined_after action defined }
 {
     match action {
         Action::Update(_) => defined,
@@ -96,7 +96,7 @@ fn defined_after(action: Action, defined: Defined) -> Defined
 // The fence and the defined cursor after an action.
 // Rules out: a defined cursor that keeps the old hotspot; a cursor that clears the fence.
 pub fn mark(marks: Marks, action: Action) -> Marks
-    ensures { result ≡ marksAfter action marks }
+    ensures { result ≡ marks_after action marks }
 {
     let defined = marks.defined;
     Marks {

@@ -13,11 +13,11 @@ use Rattle.execution.specs.declared.Cause.TheVariants.{TooLong}
 use Rattle.execution.specs.declared.End.TheVariants.{Fault}
 use Rattle.execution.specs.Straight.{Turn, Line, end_of, steps, straight, whole, ending}
 use Rattle.execution.specs.Table.{Table, unless, turn_of, TableLaws}
-use Rattle.execution.specs.Claim.{Op, append, run, ended, appended, ran, Event, replyNumber, counted, taken, metEnd, met, faulted, first, fed, countAll, standingFault}
-use Rattle.execution.specs.Claim.{verdict, lineAfter, says, Demand3}
+use Rattle.execution.specs.Claim.{Op, append, run, ended, appended, ran, Event, reply_number, counted, taken, met_end, met, faulted, first, fed, count_all, standing_fault}
+use Rattle.execution.specs.Claim.{verdict, line_after, says, Demand3}
 use Rattle.execution.specs.Turns.{runs}
 use Rattle.execution.specs.Queue.{Played, fresh, offer, try, act, play}
-use Rattle.execution.proofs.Tables.{laws-of}
+use Rattle.execution.proofs.Tables.{laws_of}
 use Rattle.execution.proofs.QueueLaws.{demand3}
 
 -- FENCE, 30, has two words; ESCAPE, 33, a head of three and then ceil(size/4). The machine is the last fence.
@@ -25,7 +25,7 @@ abbrev commands : Table ℕ
 commands = record {
   offered = λ x. eqb x 30 || eqb x 33;
   head = λ x. cond (eqb x 30) 2 3;
-  headGood = λ h. true;
+  head_good = λ h. true;
   size = λ h. cond (eqb (get_or h 0 0) 30) 2 (3 + (get_or h 2 0 + 3) / 4);
   good = λ s w. true;
   effect = λ s w. cond (eqb (get_or w 0 0) 30) (get_or w 1 0) s;
@@ -46,17 +46,17 @@ played = play 5 turn ops (fresh 0)
 unfoldable events : List Event
 events = played.events
 
-numbers : map (λ (e : Event). replyNumber e.reply) events ≡ 0 ∷ 0 ∷ 0 ∷ 2 ∷ 2 ∷ 1 ∷ 0 ∷ 0 ∷ 0 ∷ 0 ∷ 1 ∷ 12 ∷ 23 ∷ []
-unfolding events played turn ops fresh play act offer try runs turn_of unless metEnd met
+numbers : map (λ (e : Event). reply_number e.reply) events ≡ 0 ∷ 0 ∷ 0 ∷ 2 ∷ 2 ∷ 1 ∷ 0 ∷ 0 ∷ 0 ∷ 0 ∷ 1 ∷ 12 ∷ 23 ∷ []
+unfolding events played turn ops fresh play act offer try runs turn_of unless met_end met
 numbers = refl
 
 counts : map (λ (e : Event). counted e.reply) events ≡ 0 ∷ 0 ∷ 0 ∷ 0 ∷ 1 ∷ 0 ∷ 0 ∷ 0 ∷ 0 ∷ 0 ∷ 0 ∷ 1 ∷ 0 ∷ []
-unfolding events played turn ops fresh play act offer try runs turn_of unless metEnd met counted
+unfolding events played turn ops fresh play act offer try runs turn_of unless met_end met counted
 counts = refl
 
 -- two commands are executed, the fault stands, and what is left is the head of the ESCAPE, with the last fence
-executed : (countAll events ≡ 2) × (standingFault events ≡ some TooLong) × (lineAfter turn 0 events ≡ record { words = 33 ∷ 0 ∷ 12 ∷ []; machine = 8 })
-unfolding events played turn ops fresh play act offer try runs turn_of unless metEnd met counted taken faulted first fed countAll standingFault straight
+executed : (count_all events ≡ 2) × (standing_fault events ≡ some TooLong) × (line_after turn 0 events ≡ record { words = 33 ∷ 0 ∷ 12 ∷ []; machine = 8 })
+unfolding events played turn ops fresh play act offer try runs turn_of unless met_end met counted taken faulted first fed count_all standing_fault straight
 executed = (refl, refl, refl)
 
 full : Line ℕ
@@ -69,12 +69,12 @@ answers = (refl, refl)
 
 -- this table keeps what a table owes, and so its lists meet the claim
 
-commands-laws : TableLaws 5 commands
-commands-laws = record {
-  head-fits = λ x e. cases (eqb x 30) (λ t. rw t (omega arith)) (λ f. rw f (omega arith));
-  size-some = λ h. cases (eqb (get_or h 0 0) 30) (λ t. rw t (omega arith)) (λ f. rw f (omega arith));
+commands_laws : TableLaws 5 commands
+commands_laws = record {
+  head_fits = λ x e. cases (eqb x 30) (λ t. rw t (omega arith)) (λ f. rw f (omega arith));
+  size_some = λ h. cases (eqb (get_or h 0 0) 30) (λ t. rw t (omega arith)) (λ f. rw f (omega arith));
 }
 
 claimed : Demand3 5 turn 0 events played.queue.line played.queue.stands
 unfolding turn played events
-claimed = demand3 (laws-of 5 commands commands-laws) 0 (omega arith) ops
+claimed = demand3 (laws_of 5 commands commands_laws) 0 (omega arith) ops

@@ -5,7 +5,7 @@ use Rattle.std.proofs.Math.Option.{Option, none, some}
 use Rattle.execution.specs.declared.Cause.{Cause}
 use Rattle.execution.specs.declared.End.{End}
 use Rattle.execution.specs.declared.End.TheVariants.{Drained, Waiting, Fault}
-use Rattle.execution.specs.Straight.{causeNumber, endNumber, Turn, ends, Line, next, steps, straight, whole, ending}
+use Rattle.execution.specs.Straight.{cause_number, end_number, Turn, ends, Line, next, steps, straight, whole, ending}
 
 -- Demand 3: "any list of appends, one word each by the published rule, and runs of any budget, refused ones included"
 pub data Op : Type 0 where
@@ -28,16 +28,16 @@ pub record Event : Type 0 where
   pub reply : Reply
 
 -- Document 01, "Answer numbers", of a run: 2 budget spent, 23 fault already standing.
-abbrev pub answerNumber : Answer → ℕ
-answerNumber spent = 2
-answerNumber standing = 23
-answerNumber (ended e) = endNumber e
+abbrev pub answer_number : Answer → ℕ
+answer_number spent = 2
+answer_number standing = 23
+answer_number (ended e) = end_number e
 
 -- An append's number is 0 where its word was taken and 1 where it was refused.
-abbrev pub replyNumber : Reply → ℕ
-replyNumber (appended true) = 0
-replyNumber (appended false) = 1
-replyNumber (ran r c) = answerNumber r
+abbrev pub reply_number : Reply → ℕ
+reply_number (appended true) = 0
+reply_number (appended false) = 1
+reply_number (ran r c) = answer_number r
 
 -- Of one operation: the words it put into the ring, the commands it executed, the fault it answered.
 
@@ -51,15 +51,15 @@ unfoldable pub counted : Reply → ℕ
 counted (appended t) = 0
 counted (ran r c) = c
 
-unfoldable pub metEnd : End → Option Cause
-metEnd Drained = none
-metEnd Waiting = none
-metEnd (Fault c) = some c
+unfoldable pub met_end : End → Option Cause
+met_end Drained = none
+met_end Waiting = none
+met_end (Fault c) = some c
 
 unfoldable pub met : Answer → Option Cause
 met spent = none
 met standing = none
-met (ended e) = metEnd e
+met (ended e) = met_end e
 
 unfoldable pub faulted : Reply → Option Cause
 faulted (appended t) = none
@@ -73,8 +73,8 @@ first (some c) d = some c
 -- Of a list of operations with their answers.
 
 -- The operations alone.
-abbrev pub ops-of : List Event → List Op
-ops-of es = map (λ (e : Event). e.op) es
+abbrev pub ops_of_lem : List Event → List Op
+ops_of_lem es = map (λ (e : Event). e.op) es
 
 -- "Straight execution is fed the words that the list's appends took, in order."
 unfoldable pub fed : List Event → List ℕ
@@ -82,14 +82,14 @@ fed [] = []
 fed (e ∷ es) = taken e.op e.reply ++ fed es
 
 -- "Let k be the sum of the counts the list's runs answered."
-unfoldable pub countAll : List Event → ℕ
-countAll [] = 0
-countAll (e ∷ es) = counted e.reply + countAll es
+unfoldable pub count_all : List Event → ℕ
+count_all [] = 0
+count_all (e ∷ es) = counted e.reply + count_all es
 
 -- "A fault stands exactly when a run of the list answered 10, 11 or 12, and has that number": the first, and there is no second
-unfoldable pub standingFault : List Event → Option Cause
-standingFault [] = none
-standingFault (e ∷ es) = first (faulted e.reply) (standingFault es)
+unfoldable pub standing_fault : List Event → Option Cause
+standing_fault [] = none
+standing_fault (e ∷ es) = first (faulted e.reply) (standing_fault es)
 
 -- "Its number is 2 if c = b, else the answer that ends straight execution there."
 unfoldable pub verdict : Bool → End → Answer
@@ -115,8 +115,8 @@ module _ {S : Type 0} where
 
 module _ {S : Type 0} (turn : S → List ℕ → Turn S) where
   -- what the first k steps leave
-  abbrev pub lineAfter : S → List Event → Line S
-  lineAfter s₀ es = straight turn (countAll es) (start s₀ es)
+  abbrev pub line_after : S → List Event → Line S
+  line_after s₀ es = straight turn (count_all es) (start s₀ es)
 
 module _ {S : Type 0} (cap : ℕ) (turn : S → List ℕ → Turn S) where
   -- What an operation answers where this line is left and this fault, if any, stands. The ring carries cap words, (MAX − MIN)/4 − 1.
@@ -132,18 +132,18 @@ module _ {S : Type 0} (cap : ℕ) (turn : S → List ℕ → Turn S) where
   -- to the words waiting and the machine z, and to the standing fault f.
   pub record Demand3 (s₀ : S) (es : List Event) (z : Line S) (f : Option Cause) : Type 0 where
     -- "After the list, the first k steps all execute": of the list, and of each of its first parts p
-    pub executes : (p r : List Event) → es ≡ p ++ r → steps turn (countAll p) (start s₀ p) ≡ countAll p
+    pub executes : (p r : List Event) → es ≡ p ++ r → steps turn (count_all p) (start s₀ p) ≡ count_all p
     -- "all P screen words, all cursor words, the defined cursor and the fence are as those steps leave them"; "The words left are those waiting"
-    pub same : z ≡ lineAfter turn s₀ es
+    pub same : z ≡ line_after turn s₀ es
     -- "A fault stands exactly when a run of the list answered 10, 11 or 12, and has that number"
-    pub fault-stands : f ≡ standingFault es
-    pub fault-number : (c : Cause) → f ≡ some c → causeNumber c ≤ 12
+    pub fault_stands_lem : f ≡ standing_fault es
+    pub fault_number : (c : Cause) → f ≡ some c → cause_number c ≤ 12
     -- and straight execution still ends there, with that answer
-    pub fault-ends : (c : Cause) → f ≡ some c → next turn z ≡ ends (Fault c)
+    pub fault_ends : (c : Cause) → f ≡ some c → next turn z ≡ ends (Fault c)
     -- "Each append and each run is judged on the part of the list before it: its words left, its standing fault, its steps that still execute."
-    pub answers : (p r : List Event) (e : Event) → es ≡ p ++ e ∷ r → e.reply ≡ says (lineAfter turn s₀ p) (standingFault p) e.op
+    pub answers : (p r : List Event) (e : Event) → es ≡ p ++ e ∷ r → e.reply ≡ says (line_after turn s₀ p) (standing_fault p) e.op
     -- never more words wait than the ring carries
     pub fits : length z.words ≤ cap
     -- Demand 3: "A full ring never just waits: one run with budget one or more takes a command out, reports a fault or says that one stands."
-    pub full-ring-moves : (p r : List Event) (b : ℕ) (y : Reply) → es ≡ p ++ record { op = run b; reply = y } ∷ r
-        → length (lineAfter turn s₀ p).words ≡ cap → 1 ≤ b → MovesOn y
+    pub full_ring_moves : (p r : List Event) (b : ℕ) (y : Reply) → es ≡ p ++ record { op = run b; reply = y } ∷ r
+        → length (line_after turn s₀ p).words ≡ cap → 1 ≤ b → MovesOn y

@@ -7,17 +7,17 @@ use Rattle.execution.specs.declared.End.TheVariants.{Drained, Waiting, Fault}
 
 -- Document 01, "Answer numbers", of a fault: 10 command not offered, 11 bad operand, 12 command longer than the ring can hold, 13 NEXT_CMD unusable.
 -- No step of straight execution gives 13.
-abbrev pub causeNumber : Cause → ℕ
-causeNumber NotOffered = 10
-causeNumber BadOperand = 11
-causeNumber TooLong = 12
-causeNumber BadNext = 13
+abbrev pub cause_number : Cause → ℕ
+cause_number NotOffered = 10
+cause_number BadOperand = 11
+cause_number TooLong = 12
+cause_number BadNext = 13
 
 -- Of a run: 0 drained, 1 waiting for the rest of a command.
-abbrev pub endNumber : End → ℕ
-endNumber Drained = 0
-endNumber Waiting = 1
-endNumber (Fault c) = causeNumber c
+abbrev pub end_number : End → ℕ
+end_number Drained = 0
+end_number Waiting = 1
+end_number (Fault c) = cause_number c
 
 -- "An answer 0, 1, 10, 11 or 12 ends it with nothing changed; otherwise the command is executed and its words dropped."
 -- `exec n s` executes a command of n words, which leaves the machine s.

@@ -12,7 +12,7 @@ pub record Table (S : Type 0) : Type 0 where
   -- words of its head, the number included; a command of fixed length is all head
   pub head : ℕ → ℕ
   -- of the head's words: are they good; how many words has the whole command
-  pub headGood : List ℕ → Bool
+  pub head_good : List ℕ → Bool
   pub size : List ℕ → ℕ
   -- of all its words, on the machine there: may it be executed; what does it leave
   pub good : S → List ℕ → Bool
@@ -38,11 +38,11 @@ module _ {S : Type 0} (T : Table S) where
 module _ {S : Type 0} (cap : ℕ) (T : Table S) where
   -- "Number not offered: 10. Head incomplete: 1. Cursor head bad: 11. Length above what the ring carries: 12. Words missing: 1. Raster operation
   -- above 15: 11. Then it is executed". The words w begin with the number x; the ring carries cap words.
-  abbrev pub turnAt : S → ℕ → List ℕ → Turn S
-  turnAt s x w =
+  abbrev pub turn_at : S → ℕ → List ℕ → Turn S
+  turn_at s x w =
       unless (T.offered x) (ends (Fault NotOffered))
       (unless (leb (T.head x) (length w)) (ends Waiting)
-      (unless (T.headGood (head_of T x w)) (ends (Fault BadOperand))
+      (unless (T.head_good (head_of T x w)) (ends (Fault BadOperand))
       (unless (leb (size_of T x w) cap) (ends (Fault TooLong))
       (unless (leb (size_of T x w) (length w)) (ends Waiting)
       (unless (T.good s (all_of T x w)) (ends (Fault BadOperand))
@@ -51,7 +51,7 @@ module _ {S : Type 0} (cap : ℕ) (T : Table S) where
   -- "NEXT_CMD = STOP: 0": no words are left
   unfoldable pub turn_of : S → List ℕ → Turn S
   turn_of s [] = ends Drained
-  turn_of s (x ∷ w) = turnAt s x (x ∷ w)
+  turn_of s (x ∷ w) = turn_at s x (x ∷ w)
 
 -- What a command set owes for demand 3, of a ring that carries cap words.
 pub record Laws {S : Type 0} (cap : ℕ) (turn : S → List ℕ → Turn S) : Type 0 where
@@ -62,14 +62,14 @@ pub record Laws {S : Type 0} (cap : ℕ) (turn : S → List ℕ → Turn S) : Ty
   pub takes_one : (s s' : S) (w : List ℕ) (n : ℕ) → turn s w ≡ exec n s' → 1 ≤ n
   pub takes_whole : (s s' : S) (w : List ℕ) (n : ℕ) → turn s w ≡ exec n s' → n ≤ length w
   -- words appended change neither a command that executes nor a fault: this is why the order of work does not show
-  pub exec-stays : (s s' : S) (w v : List ℕ) (n : ℕ) → turn s w ≡ exec n s' → turn s (w ++ v) ≡ exec n s'
-  pub fault-stays : (s : S) (w v : List ℕ) (c : Cause) → turn s w ≡ ends (Fault c) → turn s (w ++ v) ≡ ends (Fault c)
+  pub exec_stays : (s s' : S) (w v : List ℕ) (n : ℕ) → turn s w ≡ exec n s' → turn s (w ++ v) ≡ exec n s'
+  pub fault_stays : (s : S) (w v : List ℕ) (c : Cause) → turn s w ≡ ends (Fault c) → turn s (w ++ v) ≡ ends (Fault c)
   -- no turn of straight execution gives 13
-  pub not-13 : (s : S) (w : List ℕ) → turn s w ≡ ends (Fault BadNext) → ⊥
+  pub not_13 : (s : S) (w : List ℕ) → turn s w ≡ ends (Fault BadNext) → ⊥
   -- it waits only where an append is taken
-  pub wait-has-room : (s : S) (w : List ℕ) → turn s w ≡ ends Waiting → length w < cap
+  pub wait_has_room : (s : S) (w : List ℕ) → turn s w ≡ ends Waiting → length w < cap
 
 -- What a table owes for its turn to keep these laws: the ring carries the head of each command, and a command has a word.
 pub record TableLaws {S : Type 0} (cap : ℕ) (T : Table S) : Type 0 where
-  pub head-fits : (x : ℕ) → T.offered x ≡ true → T.head x ≤ cap
-  pub size-some : (h : List ℕ) → 1 ≤ T.size h
+  pub head_fits : (x : ℕ) → T.offered x ≡ true → T.head x ≤ cap
+  pub size_some : (h : List ℕ) → 1 ≤ T.size h

@@ -1,6 +1,6 @@
 // How straight execution and runs end, with document 01's answer numbers. The theory over them is in specs and proofs.
 ghost use Rattle.std.specs.Prelude.{◌≡◌};
-ghost use Rattle.execution.specs.Straight.{causeNumber, endNumber};
+ghost use Rattle.execution.specs.Straight.{cause_number, end_number};
 
 // Why a fault stands.
 #[derive(Drop)]
@@ -21,7 +21,7 @@ pub enum End {
 
 // Rules out: 12 for a bad operand; 13 for a command that is not offered.
 pub fn cause_number(cause: Cause) -> u32
-    ensures { result ≡ causeNumber cause }
+    ensures { result ≡ cause_number cause }
 {
     match cause {
         Cause::NotOffered => 10,
@@ -33,7 +33,7 @@ pub fn cause_number(cause: Cause) -> u32
 
 // Rules out: 1 for a drained ring; 0 for a fault.
 pub fn end_number(end: End) -> u32
-    ensures { result ≡ endNumber end }
+    ensures { result ≡ end_number end }
 {
     match end {
         End::Drained => 0,

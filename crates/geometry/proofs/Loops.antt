@@ -7,71 +7,71 @@ use Prim.Native.Nat.{ℕ, ◌+◌, ◌*◌, ◌-◌, ◌≤◌, ◌<◌}
 use native.Mathlib.Omega.{arith}
 use lib.ListN.{length, get_or}
 use borrow.Rule.Slice.PartMut.{mid_of, put_mid}
-use Rattle.geometry.specs.Pixels.{within, inRect, tabulate, painted}
-use Rattle.geometry.specs.Parts.{moved, next, doneFrom, Inside, Ordered, after}
-use Rattle.geometry.proofs.Painted.{Done, done-row, done-part}
-use Rattle.geometry.proofs.Rows.{row_room, rows_none, rows_grow, grow-right, none_done, movedAt, piece-moved, pieces-done}
-use Rattle.geometry.proofs.Rows.{copiedAt, row_copied, next_fits, rows-ordered, places-ordered, rows-done}
+use Rattle.geometry.specs.Pixels.{within, in_rect, tabulate, painted}
+use Rattle.geometry.specs.Parts.{moved, next, done_from, Inside, Ordered, after}
+use Rattle.geometry.proofs.Painted.{Done, done_row, done_part}
+use Rattle.geometry.proofs.Rows.{row_room, rows_none, rows_grow, grow_right, none_done, moved_at, piece_moved, pieces_done}
+use Rattle.geometry.proofs.Rows.{copied_at, row_copied, next_fits, rows_ordered, places_ordered, rows_done}
 
 -- ---- the rows of a rectangle, each lent as a part: the first j are painted
 
 pub record RowsDone (width x y w h : ℕ) (new : ℕ → ℕ) (old : List ℕ) (j : ℕ) (l : List ℕ) : Type 0 where
   pub most : j ≤ h
-  pub done : Done (inRect width x y w j) new old l
+  pub done : Done (in_rect width x y w j) new old l
 
 module _ {width x y w h : ℕ} {new : ℕ → ℕ} {old : List ℕ} where
-  pub rows-begin : RowsDone width x y w h new old 0 old
-  rows-begin = record { most = omega arith; done = rows_none _ _ _ _ _ _ }
+  pub rows_begin : RowsDone width x y w h new old 0 old
+  rows_begin = record { most = omega arith; done = rows_none _ _ _ _ _ _ }
 
   -- a turn lends row j and gets it back: each of its places has the new pixel, which may cite what stood there
-  pub rows-turn : {j : ℕ} {l : List ℕ} → RowsDone width x y w h new old j l → Inside width x y w h (length old) → j < h
+  pub rows_turn : {j : ℕ} {l : List ℕ} → RowsDone width x y w h new old j l → Inside width x y w h (length old) → j < h
       → let at = (y + j) * width + x in
       let part = mid_of at (at + w - at) l in
       (row : List ℕ) (g : ℕ → ℕ) → row ≡ tabulate (length part) g
       → ((k : ℕ) → within at w k ≡ true → get_or part (k - at) 0 ≡ get_or old k 0 → g (k - at) ≡ new k)
       → RowsDone width x y w h new old (j + 1) (put_mid at (at + w - at) l row)
-  rows-turn {j} rows in-old more =
+  rows_turn {j} rows in-old more =
       let room = row_room in-old more in
-      let grows = rows_grow width x w _ _ _ _ _ in-old.across (grow-right y j 1) in
+      let grows = rows_grow width x w _ _ _ _ _ in-old.across (grow_right y j 1) in
       let e : (y + j) * width + x + w - ((y + j) * width + x) ≡ w = omega arith in
       rw e (λ row g is each. record {
         most = omega arith;
-        done = done-row rows.done grows room row g is (λ k lt t. each k t (done-part rows.done grows room k lt t));
+        done = done_row rows.done grows room row g is (λ k lt t. each k t (done_part rows.done grows room k lt t));
       })
 
-  pub rows_end : {j : ℕ} {l : List ℕ} → RowsDone width x y w h new old j l → h ≤ j → l ≡ painted (inRect width x y w h) new old
+  pub rows_end : {j : ℕ} {l : List ℕ} → RowsDone width x y w h new old j l → h ≤ j → l ≡ painted (in_rect width x y w h) new old
   rows_end {j} rows over = let e : j ≡ h = omega arith in rw e at rows.done.is
 
 -- ---- the pieces of a row that moves, from the front or from the back
 
 pub record PiecesDone (back : Bool) (from to n : ℕ) (f : ℕ → ℕ → ℕ) (old : List ℕ) (done : ℕ) (l : List ℕ) : Type 0 where
   pub most : done ≤ n
-  pub moves : Done (within (to + doneFrom back n done) done) (movedAt from to f old) old l
+  pub moves : Done (within (to + done_from back n done) done) (moved_at from to f old) old l
 
 module _ {back : Bool} {from to n : ℕ} {f : ℕ → ℕ → ℕ} {old : List ℕ} where
-  pub pieces-begin : PiecesDone back from to n f old 0 old
-  pieces-begin = record { most = omega arith; moves = none_done _ _ _ }
+  pub pieces_begin : PiecesDone back from to n f old 0 old
+  pieces_begin = record { most = omega arith; moves = none_done _ _ _ }
 
   module _ {done : ℕ} {l : List ℕ} (pieces : PiecesDone back from to n f old done l) where
-    pub pieces-turn : Ordered back from to → from + n ≤ length old → (k : ℕ) → done + k ≤ n
+    pub pieces_turn : Ordered back from to → from + n ≤ length old → (k : ℕ) → done + k ≤ n
         → (later : List ℕ) → later ≡ moved (from + next back n done k) (to + next back n done k) k f l → PiecesDone back from to n f old (done + k) later
-    pieces-turn o fits k h later is = record { most = h; moves = piece-moved back from to n done k f old l o pieces.moves h fits later is }
+    pieces_turn o fits k h later is = record { most = h; moves = piece_moved back from to n done k f old l o pieces.moves h fits later is }
 
     pub pieces_end : n ≤ done → l ≡ moved from to n f old
-    pieces_end over = pieces-done back from to n done f old l (omega arith) pieces.moves
+    pieces_end over = pieces_done back from to n done f old l (omega arith) pieces.moves
 
   -- the rest is one piece more, from i to j
-  pub pieces-rest : {done : ℕ} {l : List ℕ} → PiecesDone back from to n f old done l → Ordered back from to → from + n ≤ length old
+  pub pieces_rest : {done : ℕ} {l : List ℕ} → PiecesDone back from to n f old done l → Ordered back from to → from + n ≤ length old
       → (i j : ℕ) (later : List ℕ) → later ≡ moved i j (n - done) f l → i ≡ from + next back n done (n - done) → j ≡ to + next back n done (n - done)
       → later ≡ moved from to n f old
-  pieces-rest {done} pieces o fits i j later is e g =
-      let all = pieces-turn pieces o fits (n - done) (omega arith) later (rw (e, g) at is) in pieces_end all (omega arith)
+  pieces_rest {done} pieces o fits i j later is e g =
+      let all = pieces_turn pieces o fits (n - done) (omega arith) later (rw (e, g) at is) in pieces_end all (omega arith)
 
 -- ---- the rows of a copy, from the top or from the bottom
 
 pub record CopyDone (back : Bool) (width sx sy x y w h : ℕ) (f : ℕ → ℕ → ℕ) (old : List ℕ) (done : ℕ) (l : List ℕ) : Type 0 where
   pub most : done ≤ h
-  pub moves : Done (inRect width x (y + doneFrom back h done) w done) (copiedAt width sx sy x y f old) old l
+  pub moves : Done (in_rect width x (y + done_from back h done) w done) (copied_at width sx sy x y f old) old l
 
 -- what a copy knows of its rows, n words being lent: whether they go from the bottom, and where its two rectangles lie
 pub record Copying (back : Bool) (width sx sy x y w h n : ℕ) : Type 0 where
@@ -82,38 +82,38 @@ pub record Copying (back : Bool) (width sx sy x y w h n : ℕ) : Type 0 where
 -- the row of a turn: its places, and their order
 pub record CopyRow (back : Bool) (width sx sy x y w h n j : ℕ) : Type 0 where
   pub below : j < h
-  pub from-room : (sy + j) * width + sx + w ≤ n
+  pub from_room : (sy + j) * width + sx + w ≤ n
   pub to_room : (y + j) * width + x + w ≤ n
   pub narrow : w ≤ width
   pub ordered : Ordered back ((sy + j) * width + sx) ((y + j) * width + x)
 
 module _ {back : Bool} {width sx sy x y w h : ℕ} where
-  pub copy-row : {n done j : ℕ} → Copying back width sx sy x y w h n → done < h → j ≡ next back h done 1 → CopyRow back width sx sy x y w h n j
-  copy-row {n} {done} {j} c more e =
+  pub copy_row : {n done j : ℕ} → Copying back width sx sy x y w h n → done < h → j ≡ next back h done 1 → CopyRow back width sx sy x y w h n j
+  copy_row {n} {done} {j} c more e =
       let in-time = next_fits back h done 1 j e (omega arith) in
       let to = c.to_in.across in
       let from = c.from_in.across in
       record {
         below = omega arith;
-        from-room = row_room c.from_in (omega arith);
+        from_room = row_room c.from_in (omega arith);
         to_room = row_room c.to_in (omega arith);
         narrow = omega arith;
-        ordered = places-ordered back sx sy x y c.order width j (omega arith) (omega arith);
+        ordered = places_ordered back sx sy x y c.order width j (omega arith) (omega arith);
       }
 
   module _ {f : ℕ → ℕ → ℕ} {old : List ℕ} where
     pub copy_begin : CopyDone back width sx sy x y w h f old 0 old
     copy_begin = record { most = omega arith; moves = rows_none _ _ _ _ _ _ }
 
-    pub copy-turn : {done j : ℕ} {l : List ℕ} → CopyDone back width sx sy x y w h f old done l → Copying back width sx sy x y w h (length old)
+    pub copy_turn : {done j : ℕ} {l : List ℕ} → CopyDone back width sx sy x y w h f old done l → Copying back width sx sy x y w h (length old)
         → done < h → j ≡ next back h done 1
         → (later : List ℕ) → later ≡ moved ((sy + j) * width + sx) ((y + j) * width + x) w f l → CopyDone back width sx sy x y w h f old (done + 1) later
-    copy-turn {done} {l = l} rows c more e later is = record {
+    copy_turn {done} {l = l} rows c more e later is = record {
       most = omega arith;
-      moves = row_copied back width sx sy x y w h done f old l (rows-ordered back sx sy x y c.order) rows.moves (omega arith) c.to_in c.from_in later
+      moves = row_copied back width sx sy x y w h done f old l (rows_ordered back sx sy x y c.order) rows.moves (omega arith) c.to_in c.from_in later
           (rw e at is);
     }
 
-    pub copy-end : {done : ℕ} {l : List ℕ} → CopyDone back width sx sy x y w h f old done l → h ≤ done
-        → l ≡ painted (inRect width x y w h) (copiedAt width sx sy x y f old) old
-    copy-end {done} {l} rows over = rows-done back width x y w h done _ old l (omega arith) rows.moves
+    pub copy_end : {done : ℕ} {l : List ℕ} → CopyDone back width sx sy x y w h f old done l → h ≤ done
+        → l ≡ painted (in_rect width x y w h) (copied_at width sx sy x y f old) old
+    copy_end {done} {l} rows over = rows_done back width x y w h done _ old l (omega arith) rows.moves

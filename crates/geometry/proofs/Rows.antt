@@ -12,26 +12,26 @@ use lib.Dec.{eqb, ltb}
 use borrow.Author.Tests.{eqb-true, eqb-false, ltb-true, ltb-false}
 use borrow.Rule.Slice.PartMut.{mid_of, put_mid}
 use borrow.Table.Steps.{cases}
-use Rattle.geometry.specs.Pixels.{place_of, columnOf, row_of, within, inRect, tabulate, painted}
-use Rattle.geometry.specs.Parts.{front, moved, next, doneFrom, Inside, Ordered, after}
-use Rattle.geometry.proofs.Tests.{same_bool, within_in, within-yes, within-before, within-past, within-out}
+use Rattle.geometry.specs.Pixels.{place_of, column_of, row_of, within, in_rect, tabulate, painted}
+use Rattle.geometry.specs.Parts.{front, moved, next, done_from, Inside, Ordered, after}
+use Rattle.geometry.proofs.Tests.{same_bool, within_in, within_yes, within_before, within_past, within_out}
 use Rattle.geometry.proofs.Tabulate.{get_d_front}
-use Rattle.geometry.proofs.Painted.{painted_same, none-painted, length-mid, getD-mid, getD-mid-back, put-painted, Adds, Done, done-off, done_more}
+use Rattle.geometry.proofs.Painted.{painted_same, none_painted, length_mid, get_or_mid, get_or_mid_back, put_painted, Adds, Done, done_off, done_more}
 
 -- ---- a pixel and its place
 
 -- "Pixel (x, y) stands at y·width + x", and the pixel at place k is in column k % width and row k / width
 module _ (width x y : ℕ) (across : x < width) where
-  pub row-of-place : row_of width (place_of width x y) ≡ y
-  row-of-place = div-eq_of_lt-le {k = y} width (omega arith) (omega (arith, add-mul y 1 width, one-mul width))
+  pub row_of_place : row_of width (place_of width x y) ≡ y
+  row_of_place = div-eq_of_lt-le {k = y} width (omega arith) (omega (arith, add-mul y 1 width, one-mul width))
 
-  pub column-of-place : columnOf width (place_of width x y) ≡ x
-  column-of-place =
-      let d : y * width + (y * width + x) % width ≡ y * width + x = rw row-of-place at (div-add-mod' (y * width + x) width) in
+  pub column_of_place : column_of width (place_of width x y) ≡ x
+  column_of_place =
+      let d : y * width + (y * width + x) % width ≡ y * width + x = rw row_of_place at (div-add-mod' (y * width + x) width) in
       omega arith
 
-pub place-of-pixel : (width k : ℕ) → place_of width (columnOf width k) (row_of width k) ≡ k
-place-of-pixel width k = div-add-mod' k width
+pub place_of_pixel : (width k : ℕ) → place_of width (column_of width k) (row_of width k) ≡ k
+place_of_pixel width k = div-add-mod' k width
 
 -- ---- places in a row
 
@@ -54,59 +54,59 @@ module _ (width x w r k : ℕ) (across : x + w ≤ width) where
       let b = within_in (r * width + x) w k e in
       let q : k / width ≡ r = div-eq_of_lt-le {k = r} width (omega arith) (omega (arith, add-mul r 1 width, one-mul width)) in
       let d : r * width + k % width ≡ k = rw q at (div-add-mod' k width) in
-      (q, within-yes x w (k % width) (omega arith) (omega arith))
+      (q, within_yes x w (k % width) (omega arith) (omega arith))
 
   row_out : within (r * width + x) w k ≡ false → within x w (k % width) ≡ true → k / width ≡ r → ⊥
   row_out e m q =
       let b = within_in x w (k % width) m in
       let d : r * width + k % width ≡ k = rw q at (div-add-mod' k width) in
-      let z : within (r * width + x) w k ≡ true = within-yes (r * width + x) w k (omega arith) (omega arith) in
+      let z : within (r * width + x) w k ≡ true = within_yes (r * width + x) w k (omega arith) (omega arith) in
       true≢false cc
 
 -- ---- growth: k more behind the n from a on, k more before them, and the next k of n
 
-pub grow-right : (a n k : ℕ) → Adds (within a n) (within a (n + k)) (a + n) k
-grow-right a n k = record {
-  here = λ p t. let b = within_in (a + n) k p t in within-yes a (n + k) p (omega arith) (omega arith);
-  off = λ p t. let b = within_in (a + n) k p t in within-past a n p (omega arith);
+pub grow_right : (a n k : ℕ) → Adds (within a n) (within a (n + k)) (a + n) k
+grow_right a n k = record {
+  here = λ p t. let b = within_in (a + n) k p t in within_yes a (n + k) p (omega arith) (omega arith);
+  off = λ p t. let b = within_in (a + n) k p t in within_past a n p (omega arith);
   rest = λ p f. ⊎_elim
       (λ (b : p < a + n). same_bool (within a (n + k) p) (within a n p)
-      (λ e. let i = within_in a (n + k) p e in within-yes a n p i.0 b)
-      (λ e. let i = within_in a n p e in within-yes a (n + k) p i.0 (omega arith)))
-      (λ (b : a + n + k ≤ p). rw (within-past a (n + k) p (omega arith), within-past a n p (omega arith)))
-      (within-out (a + n) k p f);
+      (λ e. let i = within_in a (n + k) p e in within_yes a n p i.0 b)
+      (λ e. let i = within_in a n p e in within_yes a (n + k) p i.0 (omega arith)))
+      (λ (b : a + n + k ≤ p). rw (within_past a (n + k) p (omega arith), within_past a n p (omega arith)))
+      (within_out (a + n) k p f);
 }
 
-grow-left : (a n k : ℕ) → Adds (within (a + k) n) (within a (n + k)) a k
-grow-left a n k = record {
-  here = λ p t. let b = within_in a k p t in within-yes a (n + k) p b.0 (omega arith);
-  off = λ p t. let b = within_in a k p t in within-before (a + k) n p b.1;
+grow_left : (a n k : ℕ) → Adds (within (a + k) n) (within a (n + k)) a k
+grow_left a n k = record {
+  here = λ p t. let b = within_in a k p t in within_yes a (n + k) p b.0 (omega arith);
+  off = λ p t. let b = within_in a k p t in within_before (a + k) n p b.1;
   rest = λ p f. ⊎_elim
-      (λ (b : p < a). rw (within-before a (n + k) p b, within-before (a + k) n p (omega arith)))
+      (λ (b : p < a). rw (within_before a (n + k) p b, within_before (a + k) n p (omega arith)))
       (λ (b : a + k ≤ p). same_bool (within a (n + k) p) (within (a + k) n p)
-      (λ e. let i = within_in a (n + k) p e in within-yes (a + k) n p b (omega arith))
-      (λ e. let i = within_in (a + k) n p e in within-yes a (n + k) p (omega arith) (omega arith)))
-      (within-out a k p f);
+      (λ e. let i = within_in a (n + k) p e in within_yes (a + k) n p b (omega arith))
+      (λ e. let i = within_in (a + k) n p e in within_yes a (n + k) p (omega arith) (omega arith)))
+      (within_out a k p f);
 }
 
-pub grow-next : (back : Bool) (a n done k : ℕ) → done + k ≤ n
-    → Adds (within (a + doneFrom back n done) done) (within (a + doneFrom back n (done + k)) (done + k)) (a + next back n done k) k
-grow-next true a n done k h =
+pub grow_next : (back : Bool) (a n done k : ℕ) → done + k ≤ n
+    → Adds (within (a + done_from back n done) done) (within (a + done_from back n (done + k)) (done + k)) (a + next back n done k) k
+grow_next true a n done k h =
     let e : a + (n - (done + k)) + k ≡ a + (n - done) = omega arith in
     let f : a + (n - (done + k)) ≡ a + (n - done - k) = omega arith in
-    rw f (rw (e, f) at (grow-left (a + (n - (done + k))) done k))
-grow-next false a n done k h = let e : a + 0 ≡ a = omega arith in rw e (grow-right a done k)
+    rw f (rw (e, f) at (grow_left (a + (n - (done + k))) done k))
+grow_next false a n done k h = let e : a + 0 ≡ a = omega arith in rw e (grow_right a done k)
 
-all_done : (back : Bool) (a n : ℕ) → a + doneFrom back n n ≡ a
+all_done : (back : Bool) (a n : ℕ) → a + done_from back n n ≡ a
 all_done true a n = omega arith
 all_done false a n = omega arith
 
 -- rows: one row more
 pub rows_grow : (width x w y₁ h₁ y₂ h₂ r : ℕ) → x + w ≤ width → Adds (within y₁ h₁) (within y₂ h₂) r 1
-    → Adds (inRect width x y₁ w h₁) (inRect width x y₂ w h₂) (r * width + x) w
-unfolding inRect
+    → Adds (in_rect width x y₁ w h₁) (in_rect width x y₂ w h₂) (r * width + x) w
+unfolding in_rect
 rows_grow width x w y₁ h₁ y₂ h₂ r across grows =
-    let own : within r 1 r ≡ true = within-yes r 1 r (omega arith) (omega arith) in
+    let own : within r 1 r ≡ true = within_yes r 1 r (omega arith) (omega arith) in
     record {
       here = λ k t. let i = row_in width x w r k across t in rw (i.1, i.0) (grows.here r own);
       off = λ k t. let i = row_in width x w r k across t in rw (i.1, i.0) (grows.off r own);
@@ -123,13 +123,13 @@ within_none : (a k : ℕ) → within a 0 k ≡ false
 within_none a k = cases (within a 0 k) (λ t. let b = within_in a 0 k t in absurd (omega arith)) (λ f. f)
 
 pub none_done : (a : ℕ) (new : ℕ → ℕ) (old : List ℕ) → Done (within a 0) new old old
-none_done a new old = record { same = refl; is = sym (none-painted (within a 0) new old (λ k h. within_none a k)) }
+none_done a new old = record { same = refl; is = sym (none_painted (within a 0) new old (λ k h. within_none a k)) }
 
-pub rows_none : (width x y w : ℕ) (new : ℕ → ℕ) (old : List ℕ) → Done (inRect width x y w 0) new old old
-unfolding inRect
+pub rows_none : (width x y w : ℕ) (new : ℕ → ℕ) (old : List ℕ) → Done (in_rect width x y w 0) new old old
+unfolding in_rect
 rows_none width x y w new old = record {
   same = refl;
-  is = sym (none-painted (inRect width x y w 0) new old (λ k h. rw (within_none y (k / width), and-false)));
+  is = sym (none_painted (in_rect width x y w 0) new old (λ k h. rw (within_none y (k / width), and-false)));
 }
 
 -- ---- copies
@@ -141,65 +141,65 @@ pub row_moved : (s line line₀ row : List ℕ) (from to n : ℕ) (f : ℕ → �
     → put_mid to n s row ≡ moved from to n f s
 unfolding moved
 row_moved s line line₀ row from to n f hf ht is-line is_row =
-    put-painted s row to n _ ht is_row
+    put_painted s row to n _ ht is_row
     ∙ painted_same (within to n) _ _ s (λ k h t.
     let b = within_in to n k t in
     let e : from + (k - to) ≡ k - to + from = omega arith in
     let p : get_or line (k - to) 0 ≡ get_or s (k - to + from) 0 =
-    rw (is-line, length-mid s [] from n hf, get_d_front n (λ i. get_or (mid_of from n s) i 0) line₀ (k - to) (omega arith), getD-mid s [] from n hf (k - to) (omega arith), e) in
-    rw (p, getD-mid-back s to n ht k t))
+    rw (is-line, length_mid s [] from n hf, get_d_front n (λ i. get_or (mid_of from n s) i 0) line₀ (k - to) (omega arith), get_or_mid s [] from n hf (k - to) (omega arith), e) in
+    rw (p, get_or_mid_back s to n ht k t))
 
 -- the next k of the sources are none of the destinations done so far
 apart : (back : Bool) (from to n done k p : ℕ) → Ordered back from to → done + k ≤ n → within (from + next back n done k) k p ≡ true
-    → within (to + doneFrom back n done) done p ≡ false
-apart true from to n done k p o h t = let b = within_in (from + (n - done - k)) k p t in within-before (to + (n - done)) done p (omega arith)
-apart false from to n done k p o h t = let b = within_in (from + done) k p t in within-past (to + 0) done p (omega arith)
+    → within (to + done_from back n done) done p ≡ false
+apart true from to n done k p o h t = let b = within_in (from + (n - done - k)) k p t in within_before (to + (n - done)) done p (omega arith)
+apart false from to n done k p o h t = let b = within_in (from + done) k p t in within_past (to + 0) done p (omega arith)
 
 pub next_fits : (back : Bool) (n done k i : ℕ) → i ≡ next back n done k → done + k ≤ n → i + k ≤ n
 next_fits true n done k i e h = omega arith
 next_fits false n done k i e h = omega arith
 
 -- what moving a row puts at place p
-abbrev pub movedAt : ℕ → ℕ → (ℕ → ℕ → ℕ) → List ℕ → ℕ → ℕ
-movedAt from to f old p = f (get_or old (p - to + from) 0) (get_or old p 0)
+abbrev pub moved_at : ℕ → ℕ → (ℕ → ℕ → ℕ) → List ℕ → ℕ → ℕ
+moved_at from to f old p = f (get_or old (p - to + from) 0) (get_or old p 0)
 
 -- the next piece of a row
-pub piece-moved : (back : Bool) (from to n done k : ℕ) (f : ℕ → ℕ → ℕ) (old l : List ℕ) → Ordered back from to
-    → Done (within (to + doneFrom back n done) done) (movedAt from to f old) old l → done + k ≤ n → from + n ≤ length old
+pub piece_moved : (back : Bool) (from to n done k : ℕ) (f : ℕ → ℕ → ℕ) (old l : List ℕ) → Ordered back from to
+    → Done (within (to + done_from back n done) done) (moved_at from to f old) old l → done + k ≤ n → from + n ≤ length old
     → (later : List ℕ) → later ≡ moved (from + next back n done k) (to + next back n done k) k f l
-    → Done (within (to + doneFrom back n (done + k)) (done + k)) (movedAt from to f old) old later
+    → Done (within (to + done_from back n (done + k)) (done + k)) (moved_at from to f old) old later
 unfolding moved
-piece-moved back from to n done k f old l o so_far h fits later is =
+piece_moved back from to n done k f old l o so_far h fits later is =
     let i = next back n done k in
-    let grows = grow-next back to n done k h in
+    let grows = grow_next back to n done k h in
     done_more so_far grows later _ is (λ p lt t.
     let b = within_in (to + i) k p t in
     let r = next_fits back n done k i refl h in
     let e : p - (to + i) + (from + i) ≡ p - to + from = omega arith in
-    let off = apart back from to n done k (p - to + from) o h (within-yes (from + i) k (p - to + from) (omega arith) (omega arith)) in
-    rw (e, done-off so_far (p - to + from) (omega arith) off, done-off so_far p lt (grows.off p t)))
+    let off = apart back from to n done k (p - to + from) o h (within_yes (from + i) k (p - to + from) (omega arith) (omega arith)) in
+    rw (e, done_off so_far (p - to + from) (omega arith) off, done_off so_far p lt (grows.off p t)))
 
 -- all pieces
-pub pieces-done : (back : Bool) (from to n done : ℕ) (f : ℕ → ℕ → ℕ) (old l : List ℕ) → done ≡ n
-    → Done (within (to + doneFrom back n done) done) (movedAt from to f old) old l → l ≡ moved from to n f old
+pub pieces_done : (back : Bool) (from to n done : ℕ) (f : ℕ → ℕ → ℕ) (old l : List ℕ) → done ≡ n
+    → Done (within (to + done_from back n done) done) (moved_at from to f old) old l → l ≡ moved from to n f old
 unfolding moved
-pieces-done back from to n done f old l e all = rw (e, all_done) at all.is
+pieces_done back from to n done f old l e all = rw (e, all_done) at all.is
 
 -- what a copy puts at place k
-abbrev pub copiedAt : ℕ → ℕ → ℕ → ℕ → ℕ → (ℕ → ℕ → ℕ) → List ℕ → ℕ → ℕ
-copiedAt width sx sy x y f old k = f (get_or old (place_of width (sx + (columnOf width k - x)) (sy + (row_of width k - y))) 0) (get_or old k 0)
+abbrev pub copied_at : ℕ → ℕ → ℕ → ℕ → ℕ → (ℕ → ℕ → ℕ) → List ℕ → ℕ → ℕ
+copied_at width sx sy x y f old k = f (get_or old (place_of width (sx + (column_of width k - x)) (sy + (row_of width k - y))) 0) (get_or old k 0)
 
 -- the order of rows, and in each row
 module _ (back : Bool) (sx sy x y : ℕ) (is : back ≡ after sx sy x y) where
-  pub rows-ordered : Ordered back sy y
-  rows-ordered =
+  pub rows_ordered : Ordered back sy y
+  rows_ordered =
       rw is
       (cases (eqb sy y)
       (λ t. rw t (let e = eqb-true sy y t in cases (ltb sx x) (λ l. rw l (omega arith)) (λ g. rw g (omega arith))))
       (λ n. rw n (cases (ltb sy y) (λ l. rw l (let o = ltb-true sy y l in omega arith)) (λ g. rw g (ltb-false sy y g)))))
 
-  pub places-ordered : (width j : ℕ) → sx ≤ width → x ≤ width → Ordered back ((sy + j) * width + sx) ((y + j) * width + x)
-  places-ordered width j a b =
+  pub places_ordered : (width j : ℕ) → sx ≤ width → x ≤ width → Ordered back ((sy + j) * width + sx) ((y + j) * width + x)
+  places_ordered width j a b =
       rw is
       (cases (eqb sy y)
       (λ t. rw (t, eqb-true sy y t)
@@ -215,16 +215,16 @@ module _ (back : Bool) (sx sy x y : ℕ) (is : back ≡ after sx sy x y) where
 
 -- the next row of a copy
 pub row_copied : (back : Bool) (width sx sy x y w h done : ℕ) (f : ℕ → ℕ → ℕ) (old l : List ℕ) → Ordered back sy y
-    → Done (inRect width x (y + doneFrom back h done) w done) (copiedAt width sx sy x y f old) old l
+    → Done (in_rect width x (y + done_from back h done) w done) (copied_at width sx sy x y f old) old l
     → done + 1 ≤ h → Inside width x y w h (length old) → Inside width sx sy w h (length old)
     → (later : List ℕ)
     → later ≡ moved ((sy + next back h done 1) * width + sx) ((y + next back h done 1) * width + x) w f l
-    → Done (inRect width x (y + doneFrom back h (done + 1)) w (done + 1)) (copiedAt width sx sy x y f old) old later
-unfolding moved inRect
+    → Done (in_rect width x (y + done_from back h (done + 1)) w (done + 1)) (copied_at width sx sy x y f old) old later
+unfolding moved in_rect
 row_copied back width sx sy x y w h done f old l o so_far more to_in from_in later is =
     let j = next back h done 1 in
     let fits = next_fits back h done 1 j refl more in
-    let grows = rows_grow width x w _ done _ (done + 1) (y + j) to_in.across (grow-next back y h done 1 more) in
+    let grows = rows_grow width x w _ done _ (done + 1) (y + j) to_in.across (grow_next back y h done 1 more) in
     let room = row_room from_in {j = j} (omega arith) in
     done_more so_far grows later _ is (λ k lt t.
     let from = (sy + j) * width + sx in
@@ -235,11 +235,11 @@ row_copied back width sx sy x y w h done f old l o so_far more to_in from_in lat
     let m = within_in x w (k % width) r.1 in
     let g : sy + (y + j - y) ≡ sy + j = omega arith in
     let e : k - to + from ≡ (sy + j) * width + (sx + (k % width - x)) = omega arith in
-    let s = row_in width sx w (sy + j) (k - to + from) from_in.across (within-yes from w (k - to + from) (omega arith) (omega arith)) in
-    let off = apart back sy y h done 1 (sy + j) o more (within-yes (sy + j) 1 (sy + j) (omega arith) (omega arith)) in
-    rw (done-off so_far (k - to + from) (omega arith) (rw (s.0, off, and-false)), done-off so_far k lt (grows.off k t), e, r.0, g))
+    let s = row_in width sx w (sy + j) (k - to + from) from_in.across (within_yes from w (k - to + from) (omega arith) (omega arith)) in
+    let off = apart back sy y h done 1 (sy + j) o more (within_yes (sy + j) 1 (sy + j) (omega arith) (omega arith)) in
+    rw (done_off so_far (k - to + from) (omega arith) (rw (s.0, off, and-false)), done_off so_far k lt (grows.off k t), e, r.0, g))
 
 -- all rows
-pub rows-done : (back : Bool) (width x y w h done : ℕ) (new : ℕ → ℕ) (old l : List ℕ) → done ≡ h
-    → Done (inRect width x (y + doneFrom back h done) w done) new old l → l ≡ painted (inRect width x y w h) new old
-rows-done back width x y w h done new old l e all = rw (e, all_done) at all.is
+pub rows_done : (back : Bool) (width x y w h done : ℕ) (new : ℕ → ℕ) (old l : List ℕ) → done ≡ h
+    → Done (in_rect width x (y + done_from back h done) w done) new old l → l ≡ painted (in_rect width x y w h) new old
+rows_done back width x y w h done new old l e all = rw (e, all_done) at all.is

@@ -23,8 +23,8 @@ get_d_tabulate (suc n) f zero h = refl
 get_d_tabulate (suc n) f (suc k) h = get_d_tabulate n (λ j. f (suc j)) k (le_of_suc-le-suc h)
 
 -- a list is the table of its length and its elements
-pub is-tabulate : (l : List ℕ) (n : ℕ) (f : ℕ → ℕ) → length l ≡ n → ((k : ℕ) → k < n → get_or l k 0 ≡ f k) → l ≡ tabulate n f
-is-tabulate l n f e h =
+pub is_tabulate : (l : List ℕ) (n : ℕ) (f : ℕ → ℕ) → length l ≡ n → ((k : ℕ) → k < n → get_or l k 0 ≡ f k) → l ≡ tabulate n f
+is_tabulate l n f e h =
     ext_get_or 0 l (tabulate n f) (e ∙ sym (length-tabulate n f))
     (λ k lt. let b : k < n = omega arith in h k b ∙ sym (get_d_tabulate n f k b))
 
@@ -35,11 +35,11 @@ pub record Front (f : ℕ → ℕ) (d row : List ℕ) (i : ℕ) : Type 0 where
   pub same : length row ≡ length d
   pub is : row ≡ tabulate i f ++ drop i d
 
-front-suc : (i : ℕ) (f : ℕ → ℕ) (d : List ℕ) → i < length d → set (tabulate i f ++ drop i d) i (f i) ≡ tabulate (suc i) f ++ drop (suc i) d
+front_suc : (i : ℕ) (f : ℕ → ℕ) (d : List ℕ) → i < length d → set (tabulate i f ++ drop i d) i (f i) ≡ tabulate (suc i) f ++ drop (suc i) d
 unfolding tabulate
-front-suc i f [] h = absurd (not-suc-le-zero h)
-front-suc zero f (x ∷ d) h = refl
-front-suc (suc i) f (x ∷ d) h = ap (λ (t : List ℕ). f 0 ∷ t) (front-suc i (λ k. f (suc k)) d (le_of_suc-le-suc h))
+front_suc i f [] h = absurd (not-suc-le-zero h)
+front_suc zero f (x ∷ d) h = refl
+front_suc (suc i) f (x ∷ d) h = ap (λ (t : List ℕ). f 0 ∷ t) (front_suc i (λ k. f (suc k)) d (le_of_suc-le-suc h))
 
 front_at : (i : ℕ) (f : ℕ → ℕ) (d : List ℕ) → i < length d → get_or (tabulate i f ++ drop i d) i 0 ≡ get_or d i 0
 unfolding tabulate
@@ -50,23 +50,23 @@ front_at (suc i) f (x ∷ d) h = front_at i (λ k. f (suc k)) d (le_of_suc-le-su
 pub get_d_front : (n : ℕ) (f : ℕ → ℕ) (d : List ℕ) (k : ℕ) → k < n → get_or (front n f d) k 0 ≡ f k
 get_d_front n f d k h = get_or-append (tabulate n f) (drop n d) 0 k (omega (arith, length-tabulate n f)) ∙ get_d_tabulate n f k h
 
-pub front-start : (f : ℕ → ℕ) (d : List ℕ) → Front f d d 0
+pub front_start : (f : ℕ → ℕ) (d : List ℕ) → Front f d d 0
 unfolding tabulate
-front-start f d = record { below = omega arith; same = refl; is = refl }
+front_start f d = record { below = omega arith; same = refl; is = refl }
 
 module _ {f : ℕ → ℕ} {d row : List ℕ} {i : ℕ} (now : Front f d row i) where
   -- what is still to be stored over is as it was
   pub front_read : i < length row → get_or row i 0 ≡ get_or d i 0
   front_read h = rw now.is (front_at i f d (rw now.same at h))
 
-  pub front-step : (v : ℕ) → i < length row → v ≡ f i → Front f d (set row i v) (i + 1)
-  front-step v h e = record {
+  pub front_step : (v : ℕ) → i < length row → v ≡ f i → Front f d (set row i v) (i + 1)
+  front_step v h e = record {
     below = omega (arith, now.same);
     same = length-set row i v ∙ now.same;
-    is = rw (now.is, e, add-one) (front-suc i f d (rw now.same at h));
+    is = rw (now.is, e, add-one) (front_suc i f d (rw now.same at h));
   }
 
-  pub front-end : length row ≤ i → row ≡ tabulate (length d) f
-  front-end h =
+  pub front_end : length row ≤ i → row ≡ tabulate (length d) f
+  front_end h =
       let e : i ≡ length d = omega (arith, now.same, now.below) in
       rw (now.is, e, drop-length, append-nil)

@@ -15,8 +15,8 @@ abbrev pub next : Bool → ℕ → ℕ → ℕ → ℕ
 next back n done k = cond back (n - done - k) done
 
 -- Where the done ones begin.
-abbrev pub doneFrom : Bool → ℕ → ℕ → ℕ
-doneFrom back n done = cond back (n - done) 0
+abbrev pub done_from : Bool → ℕ → ℕ → ℕ
+done_from back n done = cond back (n - done) 0
 
 -- w by h pixels at (x, y) lie in the rows of width pixels that n words hold.
 pub record Inside (width x y w h n : ℕ) : Type 0 where

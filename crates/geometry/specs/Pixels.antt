@@ -6,9 +6,9 @@ use Rattle.geometry.specs.declared.Rect.{Rect}
 abbrev pub place_of : ℕ → ℕ → ℕ → ℕ
 place_of width x y = y * width + x
 
--- The pixel that stands at place k: its column and its row (laws `column-of-place`, `row-of-place`, `place-of-pixel`).
-abbrev pub columnOf : ℕ → ℕ → ℕ
-columnOf width k = k % width
+-- The pixel that stands at place k: its column and its row (laws `column_of_place`, `row_of_place`, `place_of_pixel`).
+abbrev pub column_of : ℕ → ℕ → ℕ
+column_of width k = k % width
 
 abbrev pub row_of : ℕ → ℕ → ℕ
 row_of width k = k / width
@@ -18,12 +18,12 @@ abbrev pub within : ℕ → ℕ → ℕ → Bool
 within a n k = leb a k && ltb k (a + n)
 
 -- The pixel at place k is one of the w by h pixels at (x, y).
-unfoldable pub inRect : ℕ → ℕ → ℕ → ℕ → ℕ → ℕ → Bool
-inRect width x y w h k = within x w (columnOf width k) && within y h (row_of width k)
+unfoldable pub in_rect : ℕ → ℕ → ℕ → ℕ → ℕ → ℕ → Bool
+in_rect width x y w h k = within x w (column_of width k) && within y h (row_of width k)
 
 -- The pixel at place k is one of the rectangle's and lies in the rows. (Its column is below width anyhow.)
 unfoldable pub in_area : ℕ → ℕ → Rect → ℕ → Bool
-in_area width rows r k = inRect width r.x r.y r.w r.h k && ltb (row_of width k) rows
+in_area width rows r k = in_rect width r.x r.y r.w r.h k && ltb (row_of width k) rows
 
 -- The list f 0, f 1, .., f (n - 1).
 unfoldable pub tabulate : ℕ → (ℕ → ℕ) → List ℕ
@@ -35,8 +35,8 @@ unfoldable pub painted : (ℕ → Bool) → (ℕ → ℕ) → List ℕ → List 
 painted inside new old = tabulate (length old) (λ k. cond (inside k) (new k) (get_or old k 0))
 
 -- The same for a painter that may be refused: where it is, the old pixels.
-unfoldable pub paintedIf : Bool → (ℕ → Bool) → (ℕ → ℕ) → List ℕ → List ℕ
-paintedIf fits inside new old = cond fits (painted inside new old) old
+unfoldable pub painted_if : Bool → (ℕ → Bool) → (ℕ → ℕ) → List ℕ → List ℕ
+painted_if fits inside new old = cond fits (painted inside new old) old
 
 -- For readers: (px, py) is a pixel of w by h pixels at (x, y).
 pub record Has (x y w h px py : ℕ) : Type 0 where

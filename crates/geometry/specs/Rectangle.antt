@@ -6,8 +6,8 @@ use Rattle.geometry.specs.declared.Cut.TheVariants.{Rectangle, Nothing}
 
 -- "Rectangles are unsigned; x + w is a whole number and never wraps."
 -- How many of the n places from at on lie below limit.
-abbrev pub spanBelow : ℕ → ℕ → ℕ → ℕ
-spanBelow limit at n = min (at + n) limit - at
+abbrev pub span_below : ℕ → ℕ → ℕ → ℕ
+span_below limit at n = min (at + n) limit - at
 
 -- The rectangle of w by h pixels at (x, y); nothing is left where it has no pixel.
 abbrev pub cut_of : ℕ → ℕ → ℕ → ℕ → Cut
@@ -15,13 +15,13 @@ cut_of x y w h = cond (eqb w 0) Nothing (cond (eqb h 0) Nothing (Rectangle (reco
 
 -- "They are cut to the mode": to rows of width pixels.
 unfoldable pub cut_to : Rect → ℕ → ℕ → Cut
-cut_to r width rows = cut_of r.x r.y (spanBelow width r.x r.w) (spanBelow rows r.y r.h)
+cut_to r width rows = cut_of r.x r.y (span_below width r.x r.w) (span_below rows r.y r.h)
 
 -- "In a copy, offset (i, j) moves exactly if both its source and its destination pixel lie in the mode":
 -- the destination, of what the cut of the destination leaves and the cut of the source at (sx, sy) then leaves of that.
-unfoldable pub cutCopy : ℕ → ℕ → Rect → ℕ → ℕ → Cut
-cutCopy sx sy r width rows =
-    cut_of r.x r.y (spanBelow width sx (spanBelow width r.x r.w)) (spanBelow rows sy (spanBelow rows r.y r.h))
+unfoldable pub cut_copy : ℕ → ℕ → Rect → ℕ → ℕ → Cut
+cut_copy sx sy r width rows =
+    cut_of r.x r.y (span_below width sx (span_below width r.x r.w)) (span_below rows sy (span_below rows r.y r.h))
 
 -- w by h pixels at (x, y).
 abbrev pub rect : ℕ → ℕ → ℕ → ℕ → Rect

@@ -1,6 +1,6 @@
 // Rectangles and their cut to rows of pixels.
 ghost use Rattle.std.specs.Prelude.{◌≡◌, ◌+◌};
-ghost use Rattle.geometry.specs.Rectangle.{spanBelow, cut_of, cut_to, cutCopy};
+ghost use Rattle.geometry.specs.Rectangle.{span_below, cut_of, cut_to, cut_copy};
 
 // w by h pixels, of which (x, y) is the top left one. Any four numbers are a rectangle.
 #[derive(Drop)]
@@ -34,7 +34,7 @@ fn end_of(at: u32, n: u32) -> u64
 
 // How many of the n places from at on lie below limit.
 fn span_below(limit: u32, at: u32, n: u32) -> u32
-    ensures { result ≡ spanBelow limit at n }
+    ensures { result ≡ span_below limit at n }
 {
     if limit <= at {
         return 0;
@@ -72,7 +72,7 @@ pub fn cut_to(area: Rect, width: u32, rows: u32) -> Cut
 // What is left of a copy's destination once the source at (sx, sy) is cut as well.
 // Rules out: destinations whose source lies outside; a source that is cut while its destination is not.
 pub fn cut_copy(sx: u32, sy: u32, area: Rect, width: u32, rows: u32) -> Cut
-    ensures { result ≡ cutCopy sx sy area width rows }
+    ensures { result ≡ cut_copy sx sy area width rows }
 {
     let w = span_below(width, area.x, area.w);
     let h = span_below(rows, area.y, area.h);

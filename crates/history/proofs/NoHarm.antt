@@ -12,131 +12,131 @@ use borrow.Author.Tests.{ltb-true, ltb-false, leb-true, eq-eqb}
 use borrow.Table.Steps.{cases}
 use Rattle.execution.specs.declared.End.TheVariants.{Drained, Waiting, Fault}
 use Rattle.execution.specs.declared.Cause.TheVariants.{NotOffered, BadOperand, TooLong, BadNext}
-use Rattle.execution.specs.Claim.{Answer, spent, standing, ended, answerNumber}
+use Rattle.execution.specs.Claim.{Answer, spent, standing, ended, answer_number}
 use Rattle.ring.specs.declared.Ring.{Ring}
 use Rattle.ring.specs.Acceptance.{Usable}
-use Rattle.ring.specs.Append.{canAppend, appendTo, appendOf}
+use Rattle.ring.specs.Append.{can_append, append_to, append_of}
 use Rattle.ring.proofs.AppendLaws.{append-refused, append-usable}
 use Rattle.writer.specs.declared.WriterAnswer.{WriterAnswer}
 use Rattle.writer.specs.declared.WriterAnswer.TheVariants.{Taken, LentLength, RingRefused, NoRoom, NotACommand}
-use Rattle.writer.specs.Writing.{Command, commandWords, freeWords, appendAll, Written, writerNumber, writeOf}
+use Rattle.writer.specs.Writing.{Command, command_words, free_words, append_all, Written, writer_number, write_of}
 use Rattle.writer.proofs.RoomLaws.{room}
-use Rattle.writer.proofs.Appending.{length-append-all, append-all-elsewhere, by-write, write-answers as writer-answers}
+use Rattle.writer.proofs.Appending.{length-append_all, append_all_elsewhere, by_write, write_answers as writer-answers}
 use Rattle.register.specs.declared.Register.{Register}
 use Rattle.register.specs.declared.Register.TheVariants.{Writes, Reads, Absent}
 use Rattle.register.specs.declared.Writable.TheVariants.{Enable, ConfigDone, Sync, CursorOn}
-use Rattle.register.specs.Numbers.{registerOf}
+use Rattle.register.specs.Numbers.{register_of}
 use Rattle.picture.specs.declared.Overlay.{Overlay}
 use Rattle.picture.specs.Picture.{composed}
-use Rattle.picture.proofs.Laws.{length-composed, beyond-stays}
+use Rattle.picture.proofs.Laws.{length-composed, beyond_stays}
 use Rattle.effect.specs.Effects.{Machine}
-use Rattle.effect.proofs.Reach.{beyond-rows}
+use Rattle.effect.proofs.Reach.{beyond_rows}
 use Rattle.run.specs.Run.{NoFence, NoPainting}
 use Rattle.device.specs.declared.Condition.{Condition}
 use Rattle.device.specs.declared.Condition.TheVariants.{Idle, Running, Faulted}
 use Rattle.device.specs.declared.Device.{Device}
-use Rattle.device.specs.Device.{pixelsOf, width_of, heightOf, rows_of, definedOf, sizesGood, modeFits, wellFormed}
+use Rattle.device.specs.Device.{pixels_of, width_of, height_of, rows_of, defined_of, sizes_good, mode_fits, well_formed}
 use Rattle.device.specs.Making.{made_of}
 use Rattle.register_read.specs.Registers.{read_by, read_of}
 use Rattle.register_write.specs.Registers.{written}
-use Rattle.adapter.specs.Picture.{cursorOver, lengthsGood, pictureOf}
-use Rattle.device_run.specs.Run.{Lent, RunOutcome, conditionAfter, busyAfter, machine_of, scene_for, line_of, turnFor, refusedRun, ran, run_of}
-use Rattle.device.proofs.Laws.{well-formed}
-use Rattle.offscreen.proofs.Joined.{joined-places}
-use Rattle.register_write.proofs.Kept.{part-kept, sizes-kept, marks-kept, busy-kept}
-use Rattle.register_read.proofs.Readings.{value-kept}
-use Rattle.register_write.specs.Rules.{Why, no_register, read_only, bad-value, wrong-length, ring-refused, is-taken}
-use Rattle.register_write.proofs.Refusals.{why, ill-formed-write}
-use Rattle.history.proofs.KeptByRun.{NotStanding, Refusal, lent_length, disabled, not-configured, fault-stands, too_large, Open, ranIn, by-run}
-use Rattle.history.proofs.KeptByRun.{left-sound, left-stays, open-sound, refused-run, run-count, run-nothing, run-filled, run-unpainted, run-tells}
-use Rattle.history.specs.Calls.{World, Call, make, write, read, run, append, submit, picture, offscreen, fence, passed, lend, perform, performAll}
-use Rattle.history.specs.Harm.{row, among, SameBut, InMode, InReach, cursorFilled, Posts}
+use Rattle.adapter.specs.Picture.{cursor_over, lengths_good, picture_of}
+use Rattle.device_run.specs.Run.{Lent, RunOutcome, condition_after, busy_after, machine_of, scene_for, line_of, turn_for, refused_run, ran, run_of}
+use Rattle.device.proofs.Laws.{well_formed_lem}
+use Rattle.offscreen.proofs.Joined.{joined_places}
+use Rattle.register_write.proofs.Kept.{part_kept, sizes_kept, marks_kept, busy_kept}
+use Rattle.register_read.proofs.Readings.{value_kept}
+use Rattle.register_write.specs.Rules.{Why, no_register, read_only, bad_value, wrong_length, ring_refused, is_taken}
+use Rattle.register_write.proofs.Refusals.{why, ill_formed_write}
+use Rattle.history.proofs.KeptByRun.{NotStanding, Refusal, lent_length_lem, disabled, not_configured_lem, fault_stands_lem, too_large_lem, Open, ran_in, by_run}
+use Rattle.history.proofs.KeptByRun.{left_sound, left_stays, open_sound, refused_run_lem, run_count, run_nothing, run_filled, run_unpainted, run_tells}
+use Rattle.history.specs.Calls.{World, Call, make, write, read, run, append, submit, picture, offscreen, fence, passed, lend, perform, perform_all}
+use Rattle.history.specs.Harm.{row, among, SameBut, InMode, InReach, cursor_filled, Posts}
 use Rattle.history.specs.Harm.{WriteChanges, ConditionChanges, RunChanges, FromNext, AppendChanges, PictureChanges, OnlyNamed, Safe, Harmless}
-use Rattle.history.proofs.Starts.{writes-number, not-one, condition-kept, refused-stays}
+use Rattle.history.proofs.Starts.{writes_number, not_one, condition_kept, refused_stays}
 
 -- ---- answers
 
-make-answers : (memory pixels : ℕ) (w : World) → among (perform (make memory pixels) w).answer (row (make memory pixels)) ≡ true
+make_answers : (memory pixels : ℕ) (w : World) → among (perform (make memory pixels) w).answer (row (make memory pixels)) ≡ true
 unfolding perform made_of
-make-answers memory pixels w = cases (sizesGood memory pixels) (λ t. rw t) (λ f. rw f)
+make_answers memory pixels w = cases (sizes_good memory pixels) (λ t. rw t) (λ f. rw f)
 
-why-row : (d : Device) (ring : List ℕ) (index value a : ℕ) → Why d ring index value a → among a (row (write index value)) ≡ true
-why-row d ring index value a (no_register e) = cases (eqb index 20) (λ t. rw t) (λ f. rw f)
-why-row d ring index value a (read_only r e) = cases (eqb index 20) (λ t. rw t) (λ f. rw f)
-why-row d ring index value a (bad-value w e f) = cases (eqb index 20) (λ t. rw t) (λ f. rw f)
-why-row d ring index value a (wrong-length e o n) = rw (eq-eqb index 20 (writes-number index ConfigDone e))
-why-row d ring index value a (ring-refused e o n u) = cases (eqb index 20) (λ t. rw t) (λ f. rw f)
-why-row d ring index value a (is-taken w e t r) = cases (eqb index 20) (λ t. rw t) (λ f. rw f)
+why_row : (d : Device) (ring : List ℕ) (index value a : ℕ) → Why d ring index value a → among a (row (write index value)) ≡ true
+why_row d ring index value a (no_register e) = cases (eqb index 20) (λ t. rw t) (λ f. rw f)
+why_row d ring index value a (read_only r e) = cases (eqb index 20) (λ t. rw t) (λ f. rw f)
+why_row d ring index value a (bad_value w e f) = cases (eqb index 20) (λ t. rw t) (λ f. rw f)
+why_row d ring index value a (wrong_length e o n) = rw (eq-eqb index 20 (writes_number index ConfigDone e))
+why_row d ring index value a (ring_refused e o n u) = cases (eqb index 20) (λ t. rw t) (λ f. rw f)
+why_row d ring index value a (is_taken w e t r) = cases (eqb index 20) (λ t. rw t) (λ f. rw f)
 
-write-answers : (index value : ℕ) (w : World) → among (perform (write index value) w).answer (row (write index value)) ≡ true
+write_answers : (index value : ℕ) (w : World) → among (perform (write index value) w).answer (row (write index value)) ≡ true
 unfolding perform
-write-answers index value w =
+write_answers index value w =
     let d = w.device in
     let ring = w.lent.ring in
-    cases (wellFormed d)
-    (λ m. why-row d ring index value (written d ring index value).answer (why d ring index value m))
-    (λ f. rw (ill-formed-write d ring index value f) (cases (eqb index 20) (λ t. rw t) (λ f. rw f)))
+    cases (well_formed d)
+    (λ m. why_row d ring index value (written d ring index value).answer (why d ring index value m))
+    (λ f. rw (ill_formed_write d ring index value f) (cases (eqb index 20) (λ t. rw t) (λ f. rw f)))
 
-read-row : (d : Device) (r : Register) → among (read_by d r).answer (0 ∷ 30 ∷ []) ≡ true
+read_row : (d : Device) (r : Register) → among (read_by d r).answer (0 ∷ 30 ∷ []) ≡ true
 unfolding read_by
-read-row d (Writes w) = refl
-read-row d (Reads r) = refl
-read-row d Absent = refl
+read_row d (Writes w) = refl
+read_row d (Reads r) = refl
+read_row d Absent = refl
 
-read-answers : (index : ℕ) (w : World) → among (perform (read index) w).answer (row (read index)) ≡ true
+read_answers : (index : ℕ) (w : World) → among (perform (read index) w).answer (row (read index)) ≡ true
 unfolding perform read_of
-read-answers index w = cases (wellFormed w.device) (λ t. rw t (read-row w.device (registerOf index))) (λ f. rw f)
+read_answers index w = cases (well_formed w.device) (λ t. rw t (read_row w.device (register_of index))) (λ f. rw f)
 
-not-standing-row : (budget : ℕ) (a : Answer) → NotStanding a → among (answerNumber a) (row (run budget)) ≡ true
-not-standing-row budget spent t = refl
-not-standing-row budget standing t = refl
-not-standing-row budget (ended Drained) t = refl
-not-standing-row budget (ended Waiting) t = refl
-not-standing-row budget (ended (Fault NotOffered)) t = refl
-not-standing-row budget (ended (Fault BadOperand)) t = refl
-not-standing-row budget (ended (Fault TooLong)) t = refl
-not-standing-row budget (ended (Fault BadNext)) t = refl
+not_standing_row : (budget : ℕ) (a : Answer) → NotStanding a → among (answer_number a) (row (run budget)) ≡ true
+not_standing_row budget spent t = refl
+not_standing_row budget standing t = refl
+not_standing_row budget (ended Drained) t = refl
+not_standing_row budget (ended Waiting) t = refl
+not_standing_row budget (ended (Fault NotOffered)) t = refl
+not_standing_row budget (ended (Fault BadOperand)) t = refl
+not_standing_row budget (ended (Fault TooLong)) t = refl
+not_standing_row budget (ended (Fault BadNext)) t = refl
 
-refusal-row : (budget a : ℕ) → Refusal a → among a (row (run budget)) ≡ true
-refusal-row budget a lent_length = refl
-refusal-row budget a disabled = refl
-refusal-row budget a not-configured = refl
-refusal-row budget a fault-stands = refl
-refusal-row budget a too_large = refl
+refusal_row : (budget a : ℕ) → Refusal a → among a (row (run budget)) ≡ true
+refusal_row budget a lent_length_lem = refl
+refusal_row budget a disabled = refl
+refusal_row budget a not_configured_lem = refl
+refusal_row budget a fault_stands_lem = refl
+refusal_row budget a too_large_lem = refl
 
-run-answers : (budget : ℕ) (w : World) → among (perform (run budget) w).answer (row (run budget)) ≡ true
+run_answers : (budget : ℕ) (w : World) → among (perform (run budget) w).answer (row (run budget)) ≡ true
 unfolding perform
-run-answers budget w =
+run_answers budget w =
     let d = w.device in
     let m = w.lent in
-    by-run d m (λ (o : RunOutcome). among o.answer (row (run budget)) ≡ true) budget
-    (refusal-row budget)
+    by_run d m (λ (o : RunOutcome). among o.answer (row (run budget)) ≡ true) budget
+    (refusal_row budget)
     (λ g o.
-    not-standing-row budget (ranIn d m budget g).answer
-    (left-stays d m g o budget).not-standing)
+    not_standing_row budget (ran_in d m budget g).answer
+    (left_stays d m g o budget).not_standing)
 
 append-answers : (word : ℕ) (w : World) → among (perform (append word) w).answer (row (append word)) ≡ true
-unfolding perform appendOf
-append-answers word w = cases (canAppend w.lent.ring) (λ t. rw t) (λ f. rw f)
+unfolding perform append_of
+append-answers word w = cases (can_append w.lent.ring) (λ t. rw t) (λ f. rw f)
 
-writer-row : (c : Command) (a : WriterAnswer) → among (writerNumber a) (row (submit c)) ≡ true
-writer-row c Taken = refl
-writer-row c LentLength = refl
-writer-row c RingRefused = refl
-writer-row c NoRoom = refl
-writer-row c NotACommand = refl
+writer_row : (c : Command) (a : WriterAnswer) → among (writer_number a) (row (submit c)) ≡ true
+writer_row c Taken = refl
+writer_row c LentLength = refl
+writer_row c RingRefused = refl
+writer_row c NoRoom = refl
+writer_row c NotACommand = refl
 
-submit-answers : (c : Command) (w : World) → among (perform (submit c) w).answer (row (submit c)) ≡ true
+submit_answers : (c : Command) (w : World) → among (perform (submit c) w).answer (row (submit c)) ≡ true
 unfolding perform
-submit-answers c w = let a = writer-answers w.lent.ring c in rw a.1 (writer-row c a.0)
+submit_answers c w = let a = writer-answers w.lent.ring c in rw a.1 (writer_row c a.0)
 
-picture-answers : (w : World) → among (perform picture w).answer (row picture) ≡ true
-unfolding perform pictureOf
-picture-answers w =
+picture_answers : (w : World) → among (perform picture w).answer (row picture) ≡ true
+unfolding perform picture_of
+picture_answers w =
     let d = w.device in
-    cases (wellFormed d)
-    (λ m. cases (lengthsGood (pixelsOf d) (length w.lent.screen) (length w.lent.cursor) (length w.output))
-    (λ l. cases (modeFits d) (λ t. rw (m, l, t)) (λ f. rw (m, l, f)))
+    cases (well_formed d)
+    (λ m. cases (lengths_good (pixels_of d) (length w.lent.screen) (length w.lent.cursor) (length w.output))
+    (λ l. cases (mode_fits d) (λ t. rw (m, l, t)) (λ f. rw (m, l, f)))
     (λ l. rw (m, l)))
     (λ f. rw f)
 
@@ -145,69 +145,69 @@ picture-answers w =
 pub all_same : {changes : ℕ → Type 0} (l : List ℕ) → SameBut changes l l
 all_same l = record { same_length = refl; elsewhere = λ i h. refl }
 
-write-changes : (index value : ℕ) (w : World) → WriteChanges index value w (perform (write index value) w).world
+write_changes : (index value : ℕ) (w : World) → WriteChanges index value w (perform (write index value) w).world
 unfolding perform
-write-changes index value w =
+write_changes index value w =
     let d = w.device in
     let ring = w.lent.ring in
     record {
-      registers = value-kept d ring index value;
-      plane = λ n. part-kept (λ (e : Device). e.plane) d ring index value (λ x q e. rw (not-one index x CursorOn q n));
-      condition = condition-kept d ring value index;
+      registers = value_kept d ring index value;
+      plane = λ n. part_kept (λ (e : Device). e.plane) d ring index value (λ x q e. rw (not_one index x CursorOn q n));
+      condition = condition_kept d ring value index;
       busy = λ s e c.
-          busy-kept d ring index value
-          (λ q. s (writes-number index Sync q)) (λ q. e (writes-number index Enable q)) (λ q. c (writes-number index ConfigDone q));
-      sizes = sizes-kept d ring index value;
-      marks = marks-kept d ring index value;
+          busy_kept d ring index value
+          (λ q. s (writes_number index Sync q)) (λ q. e (writes_number index Enable q)) (λ q. c (writes_number index ConfigDone q));
+      sizes = sizes_kept d ring index value;
+      marks = marks_kept d ring index value;
       lent = refl;
       output = refl;
     }
 
 -- a run that is refused leaves the condition
-condition-same : (c : Condition) (a : ℕ) → ConditionChanges c a c
-condition-same Idle a = refl
-condition-same (Running g) a = inl (g, refl, refl, refl)
-condition-same (Faulted c) a = refl
+condition_same : (c : Condition) (a : ℕ) → ConditionChanges c a c
+condition_same Idle a = refl
+condition_same (Running g) a = inl (g, refl, refl, refl)
+condition_same (Faulted c) a = refl
 
 -- one that is not remembers MIN and MAX, or its fault stands
-condition-moves : (a : Answer) (g h : Ring) → h.min ≡ g.min → h.max ≡ g.max → ConditionChanges (Running g) (answerNumber a) (conditionAfter a h)
-unfolding conditionAfter
-condition-moves spent g h e f = inl (h, refl, e, f)
-condition-moves standing g h e f = inl (h, refl, e, f)
-condition-moves (ended Drained) g h e f = inl (h, refl, e, f)
-condition-moves (ended Waiting) g h e f = inl (h, refl, e, f)
-condition-moves (ended (Fault c)) g h e f = inr (c, refl, refl)
+condition_moves : (a : Answer) (g h : Ring) → h.min ≡ g.min → h.max ≡ g.max → ConditionChanges (Running g) (answer_number a) (condition_after a h)
+unfolding condition_after
+condition_moves spent g h e f = inl (h, refl, e, f)
+condition_moves standing g h e f = inl (h, refl, e, f)
+condition_moves (ended Drained) g h e f = inl (h, refl, e, f)
+condition_moves (ended Waiting) g h e f = inl (h, refl, e, f)
+condition_moves (ended (Fault c)) g h e f = inr (c, refl, refl)
 
 -- one ring is remembered
-same-ring : (g h : Ring) → Running g ≡ Running h → g ≡ h
-same-ring g h e = cc
+same_ring : (g h : Ring) → Running g ≡ Running h → g ≡ h
+same_ring g h e = cc
 
-busy-moves : (a : Answer) (b : Bool) → (busyAfter a b ≡ b) ⊎ (busyAfter a b ≡ false)
-unfolding busyAfter
-busy-moves spent b = inl refl
-busy-moves standing b = inl refl
-busy-moves (ended e) b = inr refl
+busy_moves : (a : Answer) (b : Bool) → (busy_after a b ≡ b) ⊎ (busy_after a b ≡ false)
+unfolding busy_after
+busy_moves spent b = inl refl
+busy_moves standing b = inl refl
+busy_moves (ended e) b = inr refl
 
 -- words that are appended where there is room for them: ring word 2, and as many from NEXT_CMD on
-appended : (ring words : List ℕ) → Usable ring → length words ≤ freeWords ring
-    → SameBut (λ i. (i ≡ 2) ⊎ FromNext ring (length words) i) ring (appendAll ring words)
+appended : (ring words : List ℕ) → Usable ring → length words ≤ free_words ring
+    → SameBut (λ i. (i ≡ 2) ⊎ FromNext ring (length words) i) ring (append_all ring words)
 appended ring words u l = record {
-  same_length = length-append-all ring words;
-  elsewhere = λ i h. append-all-elsewhere ring words u l i (λ e. h (inl e)) (λ k b e. h (inr (k, b, e)));
+  same_length = length-append_all ring words;
+  elsewhere = λ i h. append_all_elsewhere ring words u l i (λ e. h (inl e)) (λ k b e. h (inr (k, b, e)));
 }
 
-append-ring : (ring : List ℕ) (word : ℕ) → SameBut (λ i. (i ≡ 2) ⊎ FromNext ring 1 i) ring (appendTo ring word)
-unfolding appendAll
+append-ring : (ring : List ℕ) (word : ℕ) → SameBut (λ i. (i ≡ 2) ⊎ FromNext ring 1 i) ring (append_to ring word)
+unfolding append_all
 append-ring ring word =
-    cases (canAppend ring)
+    cases (can_append ring)
     (λ t. let u = append-usable ring t in appended ring (word ∷ []) u ((room ring u).1 t))
     (λ f. rw (append-refused ring word f) (all_same ring))
 
-submit-ring : (ring : List ℕ) (c : Command) → SameBut (λ i. (i ≡ 2) ⊎ FromNext ring (length (commandWords c)) i) ring (writeOf ring c).ring
-submit-ring ring c =
-    by-write ring c (λ (o : Written). SameBut (λ i. (i ≡ 2) ⊎ FromNext ring (length (commandWords c)) i) ring o.ring)
+submit_ring : (ring : List ℕ) (c : Command) → SameBut (λ i. (i ≡ 2) ⊎ FromNext ring (length (command_words c)) i) ring (write_of ring c).ring
+submit_ring ring c =
+    by_write ring c (λ (o : Written). SameBut (λ i. (i ≡ 2) ⊎ FromNext ring (length (command_words c)) i) ring o.ring)
     (λ a high. all_same ring)
-    (λ f. appended ring (commandWords c) f.usable f.room)
+    (λ f. appended ring (command_words c) f.usable f.room)
 
 -- a test that does not hold fails
 not_yes : (b : Bool) → (b ≡ true → ⊥) → b ≡ false
@@ -215,12 +215,12 @@ not_yes true h = absurd (h refl)
 not_yes false h = refl
 
 -- not below is at least
-not-below : (i n : ℕ) → (i < n → ⊥) → n ≤ i
-not-below i n h = cases (ltb i n) (λ t. absurd (h (ltb-true i n t))) (λ f. ltb-false i n f)
+not_below : (i n : ℕ) → (i < n → ⊥) → n ≤ i
+not_below i n h = cases (ltb i n) (λ t. absurd (h (ltb-true i n t))) (λ f. ltb-false i n f)
 
 -- the world that a run's outcome leaves
-abbrev ranWorld : World → RunOutcome → World
-ranWorld w o = record { device = o.device; lent = o.lent; output = w.output }
+abbrev ran_world : World → RunOutcome → World
+ran_world w o = record { device = o.device; lent = o.lent; output = w.output }
 
 module _ (w : World) where
   abbrev d : Device
@@ -229,246 +229,246 @@ module _ (w : World) where
   abbrev m : Lent
   m = w.lent
 
-  refused-run-changes : (a : ℕ) → RunChanges a 0 w (ranWorld w (refusedRun d m a))
-  refused-run-changes a = record {
+  refused_run_changes : (a : ℕ) → RunChanges a 0 w (ran_world w (refused_run d m a))
+  refused_run_changes a = record {
     sizes = refl;
     registers = refl;
     plane = refl;
     busy = inl refl;
-    condition = condition-same d.condition a;
+    condition = condition_same d.condition a;
     ring = all_same m.ring;
-    word-6 = λ g e h. refl;
+    word_6 = λ g e h. refl;
     screen = all_same m.screen;
     offscreen = λ g e h. all_same m.screen;
     cursor = all_same m.cursor;
     framebuffer = refl;
     output = refl;
-    nothing-consumed = λ z. (refl, refl);
+    nothing_consumed = λ z. (refl, refl);
   }
 
-  ran-changes : (budget : ℕ) (g : Ring) → Open d m g
-      → RunChanges (answerNumber (ranIn d m budget g).answer) (ranIn d m budget g).count w (ranWorld w (ran d m (ranIn d m budget g)))
-  ran-changes budget g o =
-      let r = ranIn d m budget g in
-      let s = left-stays d m g o budget in
+  ran_changes : (budget : ℕ) (g : Ring) → Open d m g
+      → RunChanges (answer_number (ran_in d m budget g).answer) (ran_in d m budget g).count w (ran_world w (ran d m (ran_in d m budget g)))
+  ran_changes budget g o =
+      let r = ran_in d m budget g in
+      let s = left_stays d m g o budget in
       let running = sym o.running in
-      let before = open-sound d m g o in
-      let after = left-sound d m g o budget in
-      let filled = run-filled (scene_for d m g) g budget m.ring (machine_of d m g) in
-      let wide = (well-formed d o.is-well-formed).width_low in
-      let unpainted = run-unpainted (scene_for d m g) g budget m.ring (machine_of d m g) in
-      let same = run-nothing (scene_for d m g) g budget m.ring (machine_of d m g) in
+      let before = open_sound d m g o in
+      let after = left_sound d m g o budget in
+      let filled = run_filled (scene_for d m g) g budget m.ring (machine_of d m g) in
+      let wide = (well_formed_lem d o.is_well_formed).width_low in
+      let unpainted = run_unpainted (scene_for d m g) g budget m.ring (machine_of d m g) in
+      let same = run_nothing (scene_for d m g) g budget m.ring (machine_of d m g) in
       record {
         sizes = refl;
         registers = refl;
         plane = refl;
-        busy = busy-moves r.answer d.busy;
-        condition = subst (λ (c : Condition). ConditionChanges c (answerNumber r.answer) (conditionAfter r.answer r.place)) running
-            (condition-moves r.answer g r.place s.min s.max);
+        busy = busy_moves r.answer d.busy;
+        condition = subst (λ (c : Condition). ConditionChanges c (answer_number r.answer) (condition_after r.answer r.place)) running
+            (condition_moves r.answer g r.place s.min s.max);
         ring = subst (λ (c : Condition). SameBut (λ i. (i ≡ 3) ⊎ ((i ≡ 6) × Posts c)) m.ring r.ring) running (record {
-          same_length = s.ring-length;
-          elsewhere = λ i h. s.other-words i (λ e. h (inl e)) (λ t e. h (inr (e, leb-true 7 g.min t)));
+          same_length = s.ring_length;
+          elsewhere = λ i h. s.other_words i (λ e. h (inl e)) (λ t e. h (inr (e, leb-true 7 g.min t)));
         });
-        word-6 = λ h e.
-            subst (λ (x : Ring). NoFence (turnFor d m x) r.count (line_of d m x) → get_or r.ring 6 0 ≡ get_or m.ring 6 0)
-            (same-ring g h (sym o.running ∙ e)) (λ without. ((run-tells (scene_for d m g) g budget m.ring (machine_of d m g) refl refl).0 without).0);
-        screen = record { same_length = after.same_length; elsewhere = λ i h. after.beyond-reach i (not_yes _ h) };
+        word_6 = λ h e.
+            subst (λ (x : Ring). NoFence (turn_for d m x) r.count (line_of d m x) → get_or r.ring 6 0 ≡ get_or m.ring 6 0)
+            (same_ring g h (sym o.running ∙ e)) (λ without. ((run_tells (scene_for d m g) g budget m.ring (machine_of d m g) refl refl).0 without).0);
+        screen = record { same_length = after.same_length; elsewhere = λ i h. after.beyond_reach i (not_yes _ h) };
         offscreen = λ h e.
-            subst (λ (x : Ring). NoPainting (turnFor d m x) r.count (line_of d m x) → SameBut (InMode w) m.screen r.machine.screen)
-            (same-ring g h (sym o.running ∙ e))
-            (λ without. record { same_length = after.same_length; elsewhere = λ i n. unpainted i wide (not-below i (width_of d * heightOf d) n) without });
-        cursor = subst (λ (c : Condition). SameBut (λ i. i < cursorFilled w c r.count) m.cursor r.machine.cursor) running
-            (record { same_length = after.cursor ∙ sym before.cursor; elsewhere = λ i h. filled i (not-below i _ h) });
+            subst (λ (x : Ring). NoPainting (turn_for d m x) r.count (line_of d m x) → SameBut (InMode w) m.screen r.machine.screen)
+            (same_ring g h (sym o.running ∙ e))
+            (λ without. record { same_length = after.same_length; elsewhere = λ i n. unpainted i wide (not_below i (width_of d * height_of d) n) without });
+        cursor = subst (λ (c : Condition). SameBut (λ i. i < cursor_filled w c r.count) m.cursor r.machine.cursor) running
+            (record { same_length = after.cursor ∙ sym before.cursor; elsewhere = λ i h. filled i (not_below i _ h) });
         framebuffer = refl;
         output = refl;
-        nothing-consumed = λ z. (rw (s.untouched z, same z), ap (λ (x : Machine). x.marks) (same z));
+        nothing_consumed = λ z. (rw (s.untouched z, same z), ap (λ (x : Machine). x.marks) (same z));
       }
 
-  run-changes : (budget : ℕ) → OnlyNamed (run budget) w (perform (run budget) w)
+  run_changes : (budget : ℕ) → OnlyNamed (run budget) w (perform (run budget) w)
   unfolding perform
-  run-changes budget =
-      by-run d m (λ (o : RunOutcome). RunChanges o.answer o.count w (ranWorld w o)) budget
-      (λ a r. refused-run-changes a)
-      (ran-changes budget)
+  run_changes budget =
+      by_run d m (λ (o : RunOutcome). RunChanges o.answer o.count w (ran_world w o)) budget
+      (λ a r. refused_run_changes a)
+      (ran_changes budget)
 
-  append-changes : (word : ℕ) → AppendChanges 1 w (perform (append word) w).world
-  unfolding perform appendOf
-  append-changes word = record { ring = append-ring m.ring word; device = refl; others = refl; output = refl }
+  append_changes : (word : ℕ) → AppendChanges 1 w (perform (append word) w).world
+  unfolding perform append_of
+  append_changes word = record { ring = append-ring m.ring word; device = refl; others = refl; output = refl }
 
-  submit-changes : (c : Command) → AppendChanges (length (commandWords c)) w (perform (submit c) w).world
+  submit_changes : (c : Command) → AppendChanges (length (command_words c)) w (perform (submit c) w).world
   unfolding perform
-  submit-changes c = record { ring = submit-ring m.ring c; device = refl; others = refl; output = refl }
+  submit_changes c = record { ring = submit_ring m.ring c; device = refl; others = refl; output = refl }
 
-  composed-changes : (over : Overlay) → wellFormed d ≡ true → SameBut (InMode w) w.output (composed (width_of d) (heightOf d) over m.screen m.cursor w.output)
-  composed-changes over y =
+  composed_changes : (over : Overlay) → well_formed d ≡ true → SameBut (InMode w) w.output (composed (width_of d) (height_of d) over m.screen m.cursor w.output)
+  composed_changes over y =
       let width = width_of d in
-      let height = heightOf d in
+      let height = height_of d in
       let l = length-composed width height m.screen m.cursor w.output over in
       record {
         same_length = l;
         elsewhere = λ i h.
-            let far = not-below i (width * height) h in
+            let far = not_below i (width * height) h in
             cases (ltb i (length w.output))
-            (λ t. beyond-stays width height m.screen m.cursor w.output over i (ltb-true i (length w.output) t) (beyond-rows width height i (well-formed d y).width_low far))
+            (λ t. beyond_stays width height m.screen m.cursor w.output over i (ltb-true i (length w.output) t) (beyond_rows width height i (well_formed_lem d y).width_low far))
             (λ f.
             let k : length w.output ≤ i = ltb-false i (length w.output) f in
             get_or-eq_default (composed width height over m.screen m.cursor w.output) 0 (rw l k) ∙ sym (get_or-eq_default w.output 0 k));
       }
 
-  output-changes : SameBut (InMode w) w.output (pictureOf d m.screen m.cursor w.output).output
-  unfolding pictureOf
-  output-changes =
-      cases (wellFormed d)
-      (λ y. cases (lengthsGood (pixelsOf d) (length m.screen) (length m.cursor) (length w.output))
-      (λ l. cases (modeFits d) (λ t. rw (y, l, t) (composed-changes (cursorOver d (definedOf d)) y)) (λ f. rw (y, l, f) (all_same w.output)))
+  output_changes : SameBut (InMode w) w.output (picture_of d m.screen m.cursor w.output).output
+  unfolding picture_of
+  output_changes =
+      cases (well_formed d)
+      (λ y. cases (lengths_good (pixels_of d) (length m.screen) (length m.cursor) (length w.output))
+      (λ l. cases (mode_fits d) (λ t. rw (y, l, t) (composed_changes (cursor_over d (defined_of d)) y)) (λ f. rw (y, l, f) (all_same w.output)))
       (λ l. rw (y, l) (all_same w.output)))
       (λ f. rw f (all_same w.output))
 
-  picture-changes : PictureChanges w (perform picture w).world
+  picture_changes : PictureChanges w (perform picture w).world
   unfolding perform
-  picture-changes = record { output = output-changes; device = refl; lent = refl }
+  picture_changes = record { output = output_changes; device = refl; lent = refl }
 
 -- ---- demand 1
 
-call-answers : (c : Call) (w : World) → among (perform c w).answer (row c) ≡ true
+call_answers : (c : Call) (w : World) → among (perform c w).answer (row c) ≡ true
 unfolding perform
-call-answers (make memory pixels) w = make-answers memory pixels w
-call-answers (write index value) w = write-answers index value w
-call-answers (read index) w = read-answers index w
-call-answers (run budget) w = run-answers budget w
-call-answers (append word) w = append-answers word w
-call-answers (submit c) w = submit-answers c w
-call-answers picture w = picture-answers w
-call-answers offscreen w = refl
-call-answers fence w = refl
-call-answers (passed number) w = refl
-call-answers (lend l output) w = refl
+call_answers (make memory pixels) w = make_answers memory pixels w
+call_answers (write index value) w = write_answers index value w
+call_answers (read index) w = read_answers index w
+call_answers (run budget) w = run_answers budget w
+call_answers (append word) w = append-answers word w
+call_answers (submit c) w = submit_answers c w
+call_answers picture w = picture_answers w
+call_answers offscreen w = refl
+call_answers fence w = refl
+call_answers (passed number) w = refl
+call_answers (lend l output) w = refl
 
-make-changes : (memory pixels : ℕ) (w : World) → OnlyNamed (make memory pixels) w (perform (make memory pixels) w)
+make_changes : (memory pixels : ℕ) (w : World) → OnlyNamed (make memory pixels) w (perform (make memory pixels) w)
 unfolding perform made_of
-make-changes memory pixels w = (cases (sizesGood memory pixels) (λ t. rw t (inl refl)) (λ f. rw f (inr refl)), refl, refl)
+make_changes memory pixels w = (cases (sizes_good memory pixels) (λ t. rw t (inl refl)) (λ f. rw f (inr refl)), refl, refl)
 
-call-changes : (c : Call) (w : World) → OnlyNamed c w (perform c w)
+call_changes : (c : Call) (w : World) → OnlyNamed c w (perform c w)
 unfolding perform
-call-changes (make memory pixels) w = make-changes memory pixels w
-call-changes (write index value) w = write-changes index value w
-call-changes (read index) w = refl
-call-changes (run budget) w = run-changes w budget
-call-changes (append word) w = append-changes w word
-call-changes (submit c) w = submit-changes w c
-call-changes picture w = picture-changes w
-call-changes offscreen w = refl
-call-changes fence w = refl
-call-changes (passed number) w = refl
-call-changes (lend l output) w = (refl, refl, refl)
+call_changes (make memory pixels) w = make_changes memory pixels w
+call_changes (write index value) w = write_changes index value w
+call_changes (read index) w = refl
+call_changes (run budget) w = run_changes w budget
+call_changes (append word) w = append_changes w word
+call_changes (submit c) w = submit_changes w c
+call_changes picture w = picture_changes w
+call_changes offscreen w = refl
+call_changes fence w = refl
+call_changes (passed number) w = refl
+call_changes (lend l output) w = (refl, refl, refl)
 
-one-zero : (v i : ℕ) → v ≡ 0 → get_or (v ∷ []) i 0 ≡ 0
-one-zero v zero e = e
-one-zero v (suc i) e = refl
+one_zero : (v i : ℕ) → v ≡ 0 → get_or (v ∷ []) i 0 ≡ 0
+one_zero v zero e = e
+one_zero v (suc i) e = refl
 
-read-silent : (d : Device) (r : Register) → 20 ≤ (read_by d r).answer → (read_by d r).value ≡ 0
+read_silent : (d : Device) (r : Register) → 20 ≤ (read_by d r).answer → (read_by d r).value ≡ 0
 unfolding read_by
-read-silent d (Writes w) h = absurd (omega arith)
-read-silent d (Reads r) h = absurd (omega arith)
-read-silent d Absent h = refl
+read_silent d (Writes w) h = absurd (omega arith)
+read_silent d (Reads r) h = absurd (omega arith)
+read_silent d Absent h = refl
 
-read-value : (d : Device) (index : ℕ) → 20 ≤ (read_of d index).answer → (read_of d index).value ≡ 0
+read_value : (d : Device) (index : ℕ) → 20 ≤ (read_of d index).answer → (read_of d index).value ≡ 0
 unfolding read_of
-read-value d index = cases (wellFormed d) (λ t. rw t (read-silent d (registerOf index))) (λ f. rw f (λ h. refl))
+read_value d index = cases (well_formed d) (λ t. rw t (read_silent d (register_of index))) (λ f. rw f (λ h. refl))
 
-call-silent : (c : Call) (w : World) → 20 ≤ (perform c w).answer → (i : ℕ) → get_or (perform c w).values i 0 ≡ 0
+call_silent : (c : Call) (w : World) → 20 ≤ (perform c w).answer → (i : ℕ) → get_or (perform c w).values i 0 ≡ 0
 unfolding perform
-call-silent (make memory pixels) w h i = refl
-call-silent (write index value) w h i = refl
-call-silent (read index) w h i = one-zero (read_of w.device index).value i (read-value w.device index h)
-call-silent (run budget) w h i =
+call_silent (make memory pixels) w h i = refl
+call_silent (write index value) w h i = refl
+call_silent (read index) w h i = one_zero (read_of w.device index).value i (read_value w.device index h)
+call_silent (run budget) w h i =
     let m = w.lent in
-    let q = refused-run w.device m budget h in
-    one-zero (run_of w.device m budget).count i (ap (λ (o : RunOutcome). o.count) q)
-call-silent (append word) w h i = refl
-call-silent (submit c) w h i = refl
-call-silent picture w h i = refl
-call-silent offscreen w h i = absurd (omega arith)
-call-silent fence w h i = absurd (omega arith)
-call-silent (passed number) w h i = absurd (omega arith)
-call-silent (lend l output) w h i = refl
+    let q = refused_run_lem w.device m budget h in
+    one_zero (run_of w.device m budget).count i (ap (λ (o : RunOutcome). o.count) q)
+call_silent (append word) w h i = refl
+call_silent (submit c) w h i = refl
+call_silent picture w h i = refl
+call_silent offscreen w h i = absurd (omega arith)
+call_silent fence w h i = absurd (omega arith)
+call_silent (passed number) w h i = absurd (omega arith)
+call_silent (lend l output) w h i = refl
 
 -- every call, of every device, well-formed or not, with every lent memory
 pub safe : (c : Call) (w : World) → Safe c w
-safe c w = record { answered = call-answers c w; only-named = call-changes c w; refused = refused-stays c w; refused-values = call-silent c w }
+safe c w = record { answered = call_answers c w; only_named = call_changes c w; refused = refused_stays c w; refused_values = call_silent c w }
 
 -- and every list of calls
-pub no-harm : (cs : List Call) (w : World) → Harmless cs w
-no-harm [] w = tt
-no-harm (c ∷ cs) w = (safe c w, no-harm cs (perform c w).world)
+pub no_harm : (cs : List Call) (w : World) → Harmless cs w
+no_harm [] w = tt
+no_harm (c ∷ cs) w = (safe c w, no_harm cs (perform c w).world)
 
 -- the same of a call after any others
-pub no-harm-after : (before : List Call) (c : Call) (w : World) → Safe c (performAll before w).world
-no-harm-after before c w = safe c (performAll before w).world
+pub no_harm_after : (before : List Call) (c : Call) (w : World) → Safe c (perform_all before w).world
+no_harm_after before c w = safe c (perform_all before w).world
 
 -- What a run may paint, by rows: where the mode fits, the places in reach are those below width·rows, with as many rows as lie whole in P pixels.
-pub places-in-reach : (w : World) (i : ℕ) → wellFormed w.device ≡ true → modeFits w.device ≡ true
+pub places_in_reach : (w : World) (i : ℕ) → well_formed w.device ≡ true → mode_fits w.device ≡ true
     → InReach w i ↔ (i < width_of w.device * rows_of w.device)
-places-in-reach w i good fits = joined-places w.device good fits i
+places_in_reach w i good fits = joined_places w.device good fits i
 
 -- So no run, of no device, paints the P mod width words behind them.
-pub behind-rows-stay : (budget : ℕ) (w : World) (i : ℕ) → width_of w.device * rows_of w.device ≤ i
+pub behind_rows_stay : (budget : ℕ) (w : World) (i : ℕ) → width_of w.device * rows_of w.device ≤ i
     → get_or (perform (run budget) w).world.lent.screen i 0 ≡ get_or w.lent.screen i 0
 unfolding perform
-behind-rows-stay budget w i behind =
+behind_rows_stay budget w i behind =
     let d = w.device in
     let m = w.lent in
-    by-run d m (λ (o : RunOutcome). get_or o.lent.screen i 0 ≡ get_or m.screen i 0) budget
+    by_run d m (λ (o : RunOutcome). get_or o.lent.screen i 0 ≡ get_or m.screen i 0) budget
     (λ a r. refl)
     (λ g o.
-    (left-sound d m g o budget).beyond-reach i
-    (not_yes _ (λ t. let l = (joined-places d o.is-well-formed o.mode i).0 t in omega arith)))
+    (left_sound d m g o budget).beyond_reach i
+    (not_yes _ (λ t. let l = (joined_places d o.is_well_formed o.mode i).0 t in omega arith)))
 
 -- "The run stops after a number of commands never above its budget"
-pub run-bounded : (budget : ℕ) (w : World) → get_or (perform (run budget) w).values 0 0 ≤ budget
+pub run_bounded : (budget : ℕ) (w : World) → get_or (perform (run budget) w).values 0 0 ≤ budget
 unfolding perform
-run-bounded budget w =
+run_bounded budget w =
     let d = w.device in
     let m = w.lent in
-    by-run d m (λ (o : RunOutcome). o.count ≤ budget) budget
+    by_run d m (λ (o : RunOutcome). o.count ≤ budget) budget
     (λ a r. omega arith)
-    (λ g o. run-count (scene_for d m g) g budget m.ring (machine_of d m g))
+    (λ g o. run_count (scene_for d m g) g budget m.ring (machine_of d m g))
 
 -- "A run then changes words 3 and 6 only", "and none if it consumed nothing".
-pub run-untouched : (budget : ℕ) (w : World) → get_or (perform (run budget) w).values 0 0 ≡ 0 → (perform (run budget) w).world.lent.ring ≡ w.lent.ring
-run-untouched budget w z = ap (λ (l : Lent). l.ring) ((run-changes w budget).nothing-consumed z).0
+pub run_untouched : (budget : ℕ) (w : World) → get_or (perform (run budget) w).values 0 0 ≡ 0 → (perform (run budget) w).world.lent.ring ≡ w.lent.ring
+run_untouched budget w z = ap (λ (l : Lent). l.ring) ((run_changes w budget).nothing_consumed z).0
 
 -- "When MIN is 28 or more, an executed FENCE also writes its number to word 6; below that, as today": where the remembered MIN is below 28, or the run
 -- executes no FENCE, ring word 6 is as before.
-pub word-6-stays : (budget : ℕ) (w : World) (g : Ring) → w.device.condition ≡ Running g
-    → (g.min < 7) ⊎ NoFence (turnFor w.device w.lent g) (get_or (perform (run budget) w).values 0 0) (line_of w.device w.lent g)
+pub word_6_stays : (budget : ℕ) (w : World) (g : Ring) → w.device.condition ≡ Running g
+    → (g.min < 7) ⊎ NoFence (turn_for w.device w.lent g) (get_or (perform (run budget) w).values 0 0) (line_of w.device w.lent g)
     → get_or (perform (run budget) w).world.lent.ring 6 0 ≡ get_or w.lent.ring 6 0
-word-6-stays budget w g e =
-    let c = run-changes w budget in
+word_6_stays budget w g e =
+    let c = run_changes w budget in
     ⊎_elim
     (λ low. c.ring.elsewhere 6 (⊎_elim (λ z. omega arith) (λ z. let n : 7 ≤ g.min = rw e at z.1 in omega arith)))
-    (c.word-6 g e)
+    (c.word_6 g e)
 
 -- what a run posts, by the commands that it counted
 abbrev Told : World → Ring → RunOutcome → Type 0
 Told w g r =
-    let Without = NoFence (turnFor w.device w.lent g) r.count (line_of w.device w.lent g) in
+    let Without = NoFence (turn_for w.device w.lent g) r.count (line_of w.device w.lent g) in
     (Without → (get_or r.lent.ring 6 0 ≡ get_or w.lent.ring 6 0) × (r.device.marks.fence ≡ w.device.marks.fence))
     × (7 ≤ g.min → (¬ Without) → get_or r.lent.ring 6 0 ≡ r.device.marks.fence)
 
 -- "Boards poll ring word 6 for the last fence instead of asking us": if no FENCE is among the commands that a run counted, word 6 and the fence that the
 -- device tells are as before; if one is, and the remembered MIN is 28 or more, word 6 is that fence.
-pub word-6-tells : (budget : ℕ) (w : World) (g : Ring) → w.device.condition ≡ Running g
+pub word_6_tells : (budget : ℕ) (w : World) (g : Ring) → w.device.condition ≡ Running g
     → (let z = perform (run budget) w in
-    let Without = NoFence (turnFor w.device w.lent g) (get_or z.values 0 0) (line_of w.device w.lent g) in
+    let Without = NoFence (turn_for w.device w.lent g) (get_or z.values 0 0) (line_of w.device w.lent g) in
     (Without → (get_or z.world.lent.ring 6 0 ≡ get_or w.lent.ring 6 0) × (z.world.device.marks.fence ≡ w.device.marks.fence))
     × (7 ≤ g.min → (¬ Without) → get_or z.world.lent.ring 6 0 ≡ z.world.device.marks.fence))
 unfolding perform
-word-6-tells budget w g e =
+word_6_tells budget w g e =
     let d = w.device in
     let m = w.lent in
-    by-run d m (Told w g) budget
+    by_run d m (Told w g) budget
     (λ a r. (λ without. (refl, refl), λ low with-one. absurd (with-one (λ j l. absurd (omega arith)))))
     (λ h o.
-    subst (λ (x : Ring). Told w x (ran d m (ranIn d m budget h))) (same-ring h g (sym o.running ∙ e))
-    (run-tells (scene_for d m h) h budget m.ring (machine_of d m h) refl refl))
+    subst (λ (x : Ring). Told w x (ran d m (ran_in d m budget h))) (same_ring h g (sym o.running ∙ e))
+    (run_tells (scene_for d m h) h budget m.ring (machine_of d m h) refl refl))

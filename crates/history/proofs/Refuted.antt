@@ -14,10 +14,10 @@ use Rattle.execution.specs.Straight.{straight}
 use Rattle.execution.specs.Table.{unless, turn_of}
 use Rattle.ring.specs.declared.Ring.{Ring}
 use Rattle.ring.specs.Waiting.{after, ahead, between, words, waiting}
-use Rattle.writer.specs.Writing.{command, commandWords, dataWords}
+use Rattle.writer.specs.Writing.{command, command_words, data_words}
 use Rattle.register.specs.declared.Writable.TheVariants.{Width}
-use Rattle.register.specs.Numbers.{numbers, registerOf}
-use Rattle.cursor.specs.Plane.{shapeGood}
+use Rattle.register.specs.Numbers.{numbers, register_of}
+use Rattle.cursor.specs.Plane.{shape_good}
 use Rattle.command.specs.declared.Kind.TheVariants.{Fence, Escape}
 use Rattle.command.specs.Commands.{entry, kind_of, commands}
 use Rattle.effect.specs.declared.Marks.{Marks}
@@ -26,31 +26,31 @@ use Rattle.device.specs.declared.Registers.{Registers}
 use Rattle.device.specs.declared.Plane.{Plane}
 use Rattle.device.specs.declared.Condition.TheVariants.{Idle, Running, Faulted}
 use Rattle.device.specs.declared.Device.{Device}
-use Rattle.device.specs.Device.{freshRegisters, fresh, sizesGood, modeGood, conditionGood, definedGood, wellFormed}
-use Rattle.device.specs.Device.{withRegisters, withPlane, withBusy, withCondition}
-use Rattle.offscreen.proofs.Joined.{joined-places}
-use Rattle.register_read.specs.Registers.{writableValue}
-use Rattle.register_write.specs.Registers.{setMode}
-use Rattle.device_run.specs.Run.{Lent, lent, withRing, withFramebuffer, line_of, turnFor}
-use Rattle.history.specs.Calls.{World, make, read, submit, withDevice}
-use Rattle.history.specs.Harm.{among, SameBut, WriteChanges, RunChanges, FromNext, AppendChanges, PictureChanges, OnlyNamed, largestCursor}
+use Rattle.device.specs.Device.{fresh_registers, fresh, sizes_good, mode_good, condition_good, defined_good, well_formed}
+use Rattle.device.specs.Device.{with_registers, with_plane, with_busy, with_condition}
+use Rattle.offscreen.proofs.Joined.{joined_places}
+use Rattle.register_read.specs.Registers.{writable_value}
+use Rattle.register_write.specs.Registers.{set_mode}
+use Rattle.device_run.specs.Run.{Lent, lent, with_ring, with_framebuffer, line_of, turn_for}
+use Rattle.history.specs.Calls.{World, make, read, submit, with_device}
+use Rattle.history.specs.Harm.{among, SameBut, WriteChanges, RunChanges, FromNext, AppendChanges, PictureChanges, OnlyNamed, largest_cursor}
 
 -- ---- a world: mode 1 by 1, and a ring in which the command of a cursor of 1 by 1 waits
 
 abbrev place : Ring
 place = record { min = 4; max = 24; stop = 4 }
 
-abbrev ringWords : List ℕ
-ringWords = 16 ∷ 96 ∷ 44 ∷ 16 ∷ 22 ∷ 7 ∷ 0 ∷ 0 ∷ 1 ∷ 1 ∷ 255 ∷ 0 ∷ 0 ∷ 0 ∷ []
+abbrev ring_words : List ℕ
+ring_words = 16 ∷ 96 ∷ 44 ∷ 16 ∷ 22 ∷ 7 ∷ 0 ∷ 0 ∷ 1 ∷ 1 ∷ 255 ∷ 0 ∷ 0 ∷ 0 ∷ []
 
 abbrev two : List ℕ
 two = 0 ∷ 0 ∷ []
 
 abbrev memories : Lent
-memories = lent ringWords two two two
+memories = lent ring_words two two two
 
 abbrev before : World
-before = record { device = withCondition (withRegisters (fresh 10256 2) (setMode freshRegisters 1 1)) (Running place); lent = memories; output = two }
+before = record { device = with_condition (with_registers (fresh 10256 2) (set_mode fresh_registers 1 1)) (Running place); lent = memories; output = two }
 
 -- its device with another fence
 abbrev fenced : ℕ → Device
@@ -65,7 +65,7 @@ fenced number = record {
 
 -- the same with another device, with other memories, with another output
 abbrev device : Device → World
-device d = withDevice before d
+device d = with_device before d
 
 abbrev lending : Lent → World
 lending l = record { device = before.device; lent = l; output = two }
@@ -77,30 +77,30 @@ showing output = record { device = before.device; lent = memories; output = outp
 abbrev behind : Ring
 behind = record { min = 7; max = 24; stop = 7 }
 
-abbrev escapeWords : List ℕ
-escapeWords = 28 ∷ 96 ∷ 40 ∷ 28 ∷ 0 ∷ 0 ∷ 0 ∷ 33 ∷ 0 ∷ 0 ∷ []
+abbrev escape_words : List ℕ
+escape_words = 28 ∷ 96 ∷ 40 ∷ 28 ∷ 0 ∷ 0 ∷ 0 ∷ 33 ∷ 0 ∷ 0 ∷ []
 
 abbrev escaping : World
-escaping = record { device = withCondition before.device (Running behind); lent = withRing memories escapeWords; output = two }
+escaping = record { device = with_condition before.device (Running behind); lent = with_ring memories escape_words; output = two }
 
-abbrev postingIn : ℕ → World
-postingIn number = record { device = escaping.device; lent = withRing memories (set escapeWords 6 number); output = two }
+abbrev posting_in : ℕ → World
+posting_in number = record { device = escaping.device; lent = with_ring memories (set escape_words 6 number); output = two }
 
 -- an UPDATE of one column and two rows waits there instead
-abbrev updateWords : List ℕ
-updateWords = 28 ∷ 96 ∷ 48 ∷ 28 ∷ 0 ∷ 0 ∷ 0 ∷ 1 ∷ 0 ∷ 0 ∷ 1 ∷ 2 ∷ []
+abbrev update_words : List ℕ
+update_words = 28 ∷ 96 ∷ 48 ∷ 28 ∷ 0 ∷ 0 ∷ 0 ∷ 1 ∷ 0 ∷ 0 ∷ 1 ∷ 2 ∷ []
 
 abbrev updating : World
-updating = record { device = escaping.device; lent = withRing memories updateWords; output = two }
+updating = record { device = escaping.device; lent = with_ring memories update_words; output = two }
 
-abbrev updatingTo : ℕ → World
-updatingTo pixel = record { device = escaping.device; lent = lent updateWords two (0 ∷ pixel ∷ []) two; output = two }
+abbrev updating_to : ℕ → World
+updating_to pixel = record { device = escaping.device; lent = lent update_words two (0 ∷ pixel ∷ []) two; output = two }
 
 -- three pixels, and a mode of 2 by 1; the device is a well-formed one, so that its offscreen rectangle is worked out
 abbrev unevenly : ℕ → World
 unevenly pixel = record {
-  device = withRegisters (fresh 10256 3) (setMode freshRegisters 2 1);
-  lent = lent ringWords two (0 ∷ 0 ∷ pixel ∷ []) two;
+  device = with_registers (fresh 10256 3) (set_mode fresh_registers 2 1);
+  lent = lent ring_words two (0 ∷ 0 ∷ pixel ∷ []) two;
   output = two;
 }
 
@@ -118,156 +118,156 @@ pub other_word : SameBut (λ i. i ≡ 3) (1 ∷ 2 ∷ []) (1 ∷ 9 ∷ []) → �
 other_word h = let z : ◌≡◌ {A = ℕ} 9 2 = h.elsewhere 1 (λ e. omega arith) in omega arith
 
 -- a word lost, though every word may change
-pub lost-word : SameBut (λ i. Unit {0}) (1 ∷ 2 ∷ []) (1 ∷ []) → ⊥
-lost-word h = let z : ◌≡◌ {A = ℕ} 1 2 = h.same_length in omega arith
+pub lost_word : SameBut (λ i. Unit {0}) (1 ∷ 2 ∷ []) (1 ∷ []) → ⊥
+lost_word h = let z : ◌≡◌ {A = ℕ} 1 2 = h.same_length in omega arith
 
 -- ---- register writes
 
 -- GUEST_ID shows the cursor
-pub guest-shows : WriteChanges 23 0 before (device (withPlane before.device (record { shown = true; id = 0; x = 0; y = 0 }))) → ⊥
-guest-shows h = true≢false (ap (λ (p : Plane). p.shown) (h.plane (λ e. omega arith)))
+pub guest_shows : WriteChanges 23 0 before (device (with_plane before.device (record { shown = true; id = 0; x = 0; y = 0 }))) → ⊥
+guest_shows h = true≢false (ap (λ (p : Plane). p.shown) (h.plane (λ e. omega arith)))
 
 -- GUEST_ID stores its value as WIDTH
-pub guest-widens : WriteChanges 23 2 before (device (withRegisters before.device (setMode freshRegisters 2 1))) → ⊥
-unfolding writableValue registerOf numbers
-guest-widens h = let z : ◌≡◌ {A = ℕ} 2 1 = h.registers Width (λ e. let z : ◌≡◌ {A = ℕ} 0 1 = cc in omega arith) in omega arith
+pub guest_widens : WriteChanges 23 2 before (device (with_registers before.device (set_mode fresh_registers 2 1))) → ⊥
+unfolding writable_value register_of numbers
+guest_widens h = let z : ◌≡◌ {A = ℕ} 2 1 = h.registers Width (λ e. let z : ◌≡◌ {A = ℕ} 0 1 = cc in omega arith) in omega arith
 
 -- ENABLE 1 sets BUSY
-pub enable-busy : WriteChanges 1 1 before (device (withBusy before.device true)) → ⊥
-enable-busy h = true≢false (h.busy (λ e. omega arith) (λ e f. omega arith) (λ e f. omega arith))
+pub enable_busy : WriteChanges 1 1 before (device (with_busy before.device true)) → ⊥
+enable_busy h = true≢false (h.busy (λ e. omega arith) (λ e f. omega arith) (λ e f. omega arith))
 
 -- ENABLE 0 forgets the ring
-pub enable-forgets : WriteChanges 1 0 before (device (withCondition before.device Idle)) → ⊥
-enable-forgets h = let z : ◌≡◌ {A = ℕ} 0 1 = let q = h.condition (λ e. omega arith) in cc in omega arith
+pub enable_forgets : WriteChanges 1 0 before (device (with_condition before.device Idle)) → ⊥
+enable_forgets h = let z : ◌≡◌ {A = ℕ} 0 1 = let q = h.condition (λ e. omega arith) in cc in omega arith
 
 -- ---- runs
 
 -- a run that consumed nothing fills a cursor word
-pub nothing-fills : RunChanges 2 0 before (lending (lent ringWords two two (9 ∷ 0 ∷ []))) → ⊥
-unfolding largestCursor
-nothing-fills h = let z : ◌≡◌ {A = ℕ} 9 0 = h.cursor.elsewhere 0 (λ e. omega arith) in omega arith
+pub nothing_fills : RunChanges 2 0 before (lending (lent ring_words two two (9 ∷ 0 ∷ []))) → ⊥
+unfolding largest_cursor
+nothing_fills h = let z : ◌≡◌ {A = ℕ} 9 0 = h.cursor.elsewhere 0 (λ e. omega arith) in omega arith
 
 -- the cursor of 1 by 1 fills one word
-fills_one : largestCursor (turnFor before.device memories place) 1 (line_of before.device memories place) ≡ 1
-unfolding largestCursor turn_of unless entry kind_of commands shapeGood waiting words between after
+fills_one : largest_cursor (turn_for before.device memories place) 1 (line_of before.device memories place) ≡ 1
+unfolding largest_cursor turn_of unless entry kind_of commands shape_good waiting words between after
 fills_one = refl
 
 -- its command fills a second one
-pub one-too-far : RunChanges 2 1 before (lending (lent ringWords two two (255 ∷ 9 ∷ []))) → ⊥
-one-too-far h = let z : ◌≡◌ {A = ℕ} 9 0 = h.cursor.elsewhere 1 (λ e. omega (arith, fills_one)) in omega arith
+pub one_too_far : RunChanges 2 1 before (lending (lent ring_words two two (255 ∷ 9 ∷ []))) → ⊥
+one_too_far h = let z : ◌≡◌ {A = ℕ} 9 0 = h.cursor.elsewhere 1 (λ e. omega (arith, fills_one)) in omega arith
 
 -- a run overwrites the command that it executed, whatever it answers and counts
-pub run-overwrites : (a k : ℕ) → RunChanges a k before (lending (withRing memories (set ringWords 4 0))) → ⊥
-run-overwrites a k h = let z : ◌≡◌ {A = ℕ} 0 22 = h.ring.elsewhere 4 (⊎_elim (λ e. omega arith) (λ e. omega (arith, e.0))) in omega arith
+pub run_overwrites : (a k : ℕ) → RunChanges a k before (lending (with_ring memories (set ring_words 4 0))) → ⊥
+run_overwrites a k h = let z : ◌≡◌ {A = ℕ} 0 22 = h.ring.elsewhere 4 (⊎_elim (λ e. omega arith) (λ e. omega (arith, e.0))) in omega arith
 
 -- a run posts a fence in ring word 6, which is a word of the ring where MIN is 16
-pub run-posts-low : (a k : ℕ) → RunChanges a k before (lending (withRing memories (set ringWords 6 9))) → ⊥
-run-posts-low a k h =
+pub run_posts_low : (a k : ℕ) → RunChanges a k before (lending (with_ring memories (set ring_words 6 9))) → ⊥
+run_posts_low a k h =
     let z : ◌≡◌ {A = ℕ} 9 0 = h.ring.elsewhere 6 (⊎_elim (λ e. omega arith) (λ e. omega (arith, e.1))) in omega arith
 
-no-fence : NoFence (turnFor escaping.device escaping.lent behind) 1 (line_of escaping.device escaping.lent behind)
+no_fence : NoFence (turn_for escaping.device escaping.lent behind) 1 (line_of escaping.device escaping.lent behind)
 unfolding straight kind_of waiting words between after
-no-fence j first e =
+no_fence j first e =
     let zero : j ≡ 0 = omega arith in
     let same : Escape ≡ Fence = rw zero at e in
     let n : ◌≡◌ {A = ℕ} 0 1 = cc in
     omega arith
 
 -- a run that executed an ESCAPE alone writes ring word 6, though MIN is 28
-pub escape-posts : (a : ℕ) → RunChanges a 1 escaping (postingIn 9) → ⊥
-escape-posts a h = let z : ◌≡◌ {A = ℕ} 9 0 = h.word-6 behind refl no-fence in omega arith
+pub escape_posts : (a : ℕ) → RunChanges a 1 escaping (posting_in 9) → ⊥
+escape_posts a h = let z : ◌≡◌ {A = ℕ} 9 0 = h.word_6 behind refl no_fence in omega arith
 
-uneven-good : wellFormed uneven.device ≡ true
-unfolding wellFormed sizesGood modeGood conditionGood definedGood
-uneven-good = refl
+uneven_good : well_formed uneven.device ≡ true
+unfolding well_formed sizes_good mode_good condition_good defined_good
+uneven_good = refl
 
 -- a run paints behind the last row that lies whole in P pixels
-pub run-paints : (a k : ℕ) → RunChanges a k uneven (unevenly 9) → ⊥
-run-paints a k h =
-    let z : ◌≡◌ {A = ℕ} 9 0 = h.screen.elsewhere 2 (λ e. omega (arith, (joined-places uneven.device uneven-good refl 2).0 e)) in omega arith
+pub run_paints : (a k : ℕ) → RunChanges a k uneven (unevenly 9) → ⊥
+run_paints a k h =
+    let z : ◌≡◌ {A = ℕ} 9 0 = h.screen.elsewhere 2 (λ e. omega (arith, (joined_places uneven.device uneven_good refl 2).0 e)) in omega arith
 
-no-painting : NoPainting (turnFor updating.device updating.lent behind) 1 (line_of updating.device updating.lent behind)
+no_painting : NoPainting (turn_for updating.device updating.lent behind) 1 (line_of updating.device updating.lent behind)
 unfolding straight entry kind_of waiting words between after
-no-painting j first e =
+no_painting j first e =
     let zero : j ≡ 0 = omega arith in
-    let none-painted : ⊥ = rw zero at e in
-    none-painted
+    let none_painted : ⊥ = rw zero at e in
+    none_painted
 
 -- a run that executed an UPDATE alone, of one column and two rows, paints the offscreen row behind the mode's
-pub update-paints : (a : ℕ) → RunChanges a 1 updating (updatingTo 9) → ⊥
-update-paints a h = let z : ◌≡◌ {A = ℕ} 9 0 = (h.offscreen behind refl no-painting).elsewhere 1 (λ e. omega arith) in omega arith
+pub update_paints : (a : ℕ) → RunChanges a 1 updating (updating_to 9) → ⊥
+update_paints a h = let z : ◌≡◌ {A = ℕ} 9 0 = (h.offscreen behind refl no_painting).elsewhere 1 (λ e. omega arith) in omega arith
 
 -- a run paints into the framebuffer
-pub run-frames : (a k : ℕ) → RunChanges a k before (lending (withFramebuffer memories (9 ∷ 0 ∷ []))) → ⊥
-run-frames a k h = let z : ◌≡◌ {A = ℕ} 9 0 = ap (λ (l : List ℕ). get_or l 0 0) h.framebuffer in omega arith
+pub run_frames : (a k : ℕ) → RunChanges a k before (lending (with_framebuffer memories (9 ∷ 0 ∷ []))) → ⊥
+run_frames a k h = let z : ◌≡◌ {A = ℕ} 9 0 = ap (λ (l : List ℕ). get_or l 0 0) h.framebuffer in omega arith
 
 -- a run writes a register
-pub run-widens : (a k : ℕ) → RunChanges a k before (device (withRegisters before.device (setMode freshRegisters 2 1))) → ⊥
-run-widens a k h = let z : ◌≡◌ {A = ℕ} 2 1 = ap (λ (g : Registers). g.width) h.registers in omega arith
+pub run_widens : (a k : ℕ) → RunChanges a k before (device (with_registers before.device (set_mode fresh_registers 2 1))) → ⊥
+run_widens a k h = let z : ◌≡◌ {A = ℕ} 2 1 = ap (λ (g : Registers). g.width) h.registers in omega arith
 
 -- a run sets BUSY
-pub run-busy : (a k : ℕ) → RunChanges a k before (device (withBusy before.device true)) → ⊥
-run-busy a k h = ⊎_elim true≢false true≢false h.busy
+pub run_busy : (a k : ℕ) → RunChanges a k before (device (with_busy before.device true)) → ⊥
+run_busy a k h = ⊎_elim true≢false true≢false h.busy
 
 -- a run reads MAX again
-pub run-max : (a k : ℕ) → RunChanges a k before (device (withCondition before.device (Running (record { min = 4; max = 30; stop = 4 })))) → ⊥
-run-max a k h =
+pub run_max : (a k : ℕ) → RunChanges a k before (device (with_condition before.device (Running (record { min = 4; max = 30; stop = 4 })))) → ⊥
+run_max a k h =
     ⊎_elim
     (λ r. let z : ◌≡◌ {A = ℕ} 30 24 = let q = r.1 in let m = r.3 in cc in omega arith)
     (λ f. let z : ◌≡◌ {A = ℕ} 0 1 = let q = f.1 in cc in omega arith)
     h.condition
 
 -- a run that answered "drained" leaves a fault
-pub run-faults : (k : ℕ) → RunChanges 0 k before (device (withCondition before.device (Faulted NotOffered))) → ⊥
-run-faults k h =
+pub run_faults : (k : ℕ) → RunChanges 0 k before (device (with_condition before.device (Faulted NotOffered))) → ⊥
+run_faults k h =
     ⊎_elim
     (λ r. let z : ◌≡◌ {A = ℕ} 0 1 = let q = r.1 in cc in omega arith)
     (λ f. let z : ◌≡◌ {A = ℕ} 0 10 = let q = f.1 in let n = f.2 in cc in omega arith)
     h.condition
 
 -- a run that consumed nothing stores a fence
-pub nothing-fences : (a : ℕ) → RunChanges a 0 before (device (fenced 9)) → ⊥
-nothing-fences a h = let z : ◌≡◌ {A = ℕ} 9 0 = ap (λ (m : Marks). m.fence) (h.nothing-consumed refl).1 in omega arith
+pub nothing_fences : (a : ℕ) → RunChanges a 0 before (device (fenced 9)) → ⊥
+nothing_fences a h = let z : ◌≡◌ {A = ℕ} 9 0 = ap (λ (m : Marks). m.fence) (h.nothing_consumed refl).1 in omega arith
 
 -- a run that consumed nothing writes ring word 6, though MIN is 28
-pub nothing-posts : (a : ℕ) → RunChanges a 0 escaping (postingIn 9) → ⊥
-nothing-posts a h = let z : ◌≡◌ {A = ℕ} 9 0 = ap (λ (l : Lent). get_or l.ring 6 0) (h.nothing-consumed refl).0 in omega arith
+pub nothing_posts : (a : ℕ) → RunChanges a 0 escaping (posting_in 9) → ⊥
+nothing_posts a h = let z : ◌≡◌ {A = ℕ} 9 0 = ap (λ (l : Lent). get_or l.ring 6 0) (h.nothing_consumed refl).0 in omega arith
 
 -- ---- the other calls
 
 -- NEXT_CMD is at ring word 11, and the ring goes on for thirteen words from there
-from_next : (n i : ℕ) → n ≤ 13 → FromNext ringWords n i → (11 ≤ i) × (i < 11 + n)
+from_next : (n i : ℕ) → n ≤ 13 → FromNext ring_words n i → (11 ≤ i) × (i < 11 + n)
 unfolding ahead
 from_next n i few f = let k = f.0 in let at : i ≡ 11 + k = rw (lt-ltb (11 + k) 24 (omega arith)) at f.2 in omega arith
 
 -- an append writes ring word 4, where NEXT_CMD is not
-pub append-overwrites : AppendChanges 1 before (lending (withRing memories (set ringWords 4 0))) → ⊥
-append-overwrites h =
+pub append_overwrites : AppendChanges 1 before (lending (with_ring memories (set ring_words 4 0))) → ⊥
+append_overwrites h =
     let z : ◌≡◌ {A = ℕ} 0 22 = h.ring.elsewhere 4 (⊎_elim (λ e. omega arith) (λ f. omega (arith, from_next 1 4 (omega arith) f))) in omega arith
 
 -- an append, or a write of a command, paints
-pub append-paints : (n : ℕ) → AppendChanges n before (lending (lent ringWords two (9 ∷ 0 ∷ []) two)) → ⊥
-append-paints n h = let z : ◌≡◌ {A = ℕ} 9 0 = ap (λ (l : Lent). get_or l.screen 0 0) h.others in omega arith
+pub append_paints : (n : ℕ) → AppendChanges n before (lending (lent ring_words two (9 ∷ 0 ∷ []) two)) → ⊥
+append_paints n h = let z : ◌≡◌ {A = ℕ} 9 0 = ap (λ (l : Lent). get_or l.screen 0 0) h.others in omega arith
 
 -- a write of a FENCE, which is two words, writes the word behind them
-pub submit-too-far : OnlyNamed (submit (command (30 ∷ 7 ∷ []) [] [])) before
-    (record { answer = 0; values = []; world = lending (withRing memories (set (set (set (set ringWords 11 30) 12 7) 13 9) 2 52)) }) → ⊥
-unfolding commandWords dataWords tabulate
-submit-too-far h =
+pub submit_too_far : OnlyNamed (submit (command (30 ∷ 7 ∷ []) [] [])) before
+    (record { answer = 0; values = []; world = lending (with_ring memories (set (set (set (set ring_words 11 30) 12 7) 13 9) 2 52)) }) → ⊥
+unfolding command_words data_words tabulate
+submit_too_far h =
     let z : ◌≡◌ {A = ℕ} 9 0 = h.ring.elsewhere 13 (⊎_elim (λ e. omega arith) (λ f. omega (arith, from_next 2 13 (omega arith) f))) in omega arith
 
 -- a picture writes output behind the mode
-pub picture-beyond : PictureChanges before (showing (0 ∷ 9 ∷ [])) → ⊥
-picture-beyond h = let z : ◌≡◌ {A = ℕ} 9 0 = h.output.elsewhere 1 (λ e. omega arith) in omega arith
+pub picture_beyond : PictureChanges before (showing (0 ∷ 9 ∷ [])) → ⊥
+picture_beyond h = let z : ◌≡◌ {A = ℕ} 9 0 = h.output.elsewhere 1 (λ e. omega arith) in omega arith
 
 -- a picture blends the cursor into the screen
-pub picture-blends : PictureChanges before (lending (lent ringWords two (9 ∷ 0 ∷ []) two)) → ⊥
-picture-blends h = let z : ◌≡◌ {A = ℕ} 9 0 = ap (λ (l : Lent). get_or l.screen 0 0) h.lent in omega arith
+pub picture_blends : PictureChanges before (lending (lent ring_words two (9 ∷ 0 ∷ []) two)) → ⊥
+picture_blends h = let z : ◌≡◌ {A = ℕ} 9 0 = ap (λ (l : Lent). get_or l.screen 0 0) h.lent in omega arith
 
 -- a read sets BUSY
-pub read-busy : (i : ℕ) → OnlyNamed (read i) before (record { answer = 0; values = 0 ∷ []; world = device (withBusy before.device true) }) → ⊥
-read-busy i h = true≢false (ap (λ (w : World). w.device.busy) h)
+pub read_busy : (i : ℕ) → OnlyNamed (read i) before (record { answer = 0; values = 0 ∷ []; world = device (with_busy before.device true) }) → ⊥
+read_busy i h = true≢false (ap (λ (w : World). w.device.busy) h)
 
 -- making gives a device that is busy
-pub make-busy : OnlyNamed (make 10256 2) before (record { answer = 0; values = []; world = device (withBusy (fresh 10256 2) true) }) → ⊥
-make-busy h = ⊎_elim (λ e. true≢false (ap (λ (d : Device). d.busy) e)) (λ e. true≢false (ap (λ (d : Device). d.busy) e)) h.0
+pub make_busy : OnlyNamed (make 10256 2) before (record { answer = 0; values = []; world = device (with_busy (fresh 10256 2) true) }) → ⊥
+make_busy h = ⊎_elim (λ e. true≢false (ap (λ (d : Device). d.busy) e)) (λ e. true≢false (ap (λ (d : Device). d.busy) e)) h.0

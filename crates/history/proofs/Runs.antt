@@ -8,7 +8,7 @@ use lib.ListN.{length, drop, length-drop}
 use lib.Seq.{drop-drop}
 use Rattle.execution.specs.Straight.{Turn, ends, exec, Line, beyond, next}
 use Rattle.execution.specs.Turns.{LineRun, runs}
-use Rattle.execution.proofs.QueueLaws.{runs-ends, runs-exec}
+use Rattle.execution.proofs.QueueLaws.{runs_ends, runs_exec}
 use Rattle.execution.specs.Table.{Laws}
 
 -- ---- the words
@@ -23,17 +23,17 @@ pub record Leaves {S : Type 0} (P : S → Type 0) (a : Line S) (r : LineRun S) :
 
 module _ {S : Type 0} {cap : ℕ} {turn : S → List ℕ → Turn S} (laws : Laws cap turn) (P : S → Type 0) where
   module _ (keeps : (s s' : S) (w : List ℕ) (n : ℕ) → turn s w ≡ exec n s' → P s → P s') where
-    pub run-leaves : (b : ℕ) (a : Line S) → P a.machine → Leaves P a (runs turn b a)
+    pub run_leaves : (b : ℕ) (a : Line S) → P a.machine → Leaves P a (runs turn b a)
     unfolding runs
-    run-leaves zero a p = record { gone = 0; part = omega arith; words = refl; nothing = λ e. refl; kept = p }
-    run-leaves (suc b) a p = go (next turn a) refl (λ n s. run-leaves b (beyond a n s))
+    run_leaves zero a p = record { gone = 0; part = omega arith; words = refl; nothing = λ e. refl; kept = p }
+    run_leaves (suc b) a p = go (next turn a) refl (λ n s. run_leaves b (beyond a n s))
       where
         go : (t : Turn S) → next turn a ≡ t → ((n : ℕ) (s : S) → P s → Leaves P (beyond a n s) (runs turn b (beyond a n s))) → Leaves P a (runs turn (suc b) a)
         go (ends e) q ih =
-            rw (runs-ends turn b a e q) (record { gone = 0; part = omega arith; words = refl; nothing = λ f. refl; kept = p })
+            rw (runs_ends turn b a e q) (record { gone = 0; part = omega arith; words = refl; nothing = λ f. refl; kept = p })
         go (exec n s) q ih =
             let i = ih n s (keeps a.machine s a.words n q p) in
-            rw (runs-exec turn b a n s q) (record {
+            rw (runs_exec turn b a n s q) (record {
               gone = n + i.gone;
               part = omega (arith, i.part, length-drop n a.words, laws.takes_whole a.machine s a.words n q);
               words = i.words ∙ drop-drop i.gone n a.words;

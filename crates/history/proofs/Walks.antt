@@ -10,27 +10,27 @@ use lib.ListN.{length, get_or, set, take, drop, length-set, length-drop, take-ap
 use lib.Seq.{drop-cons, drop-drop, take-suc-set, drop-set-lt}
 use borrow.Author.Tests.{eq-eqb, ne_eqb}
 use Rattle.ring.specs.declared.AppendAnswer.{AppendAnswer}
-use Rattle.ring.specs.Append.{appendNumber, appended, appendOf, Appended}
+use Rattle.ring.specs.Append.{append_number, appended, append_of, Appended}
 use Rattle.device.specs.declared.Device.{Device}
 use Rattle.device_run.specs.declared.Ran.{Ran}
-use Rattle.device_run.specs.Run.{Lent, withRing, RunOutcome, runNumber, ranOf, run_of}
-use Rattle.history.specs.Calls.{World, perform, performAll}
-use Rattle.history.specs.Replay.{world, op_of, ops_of, answersIn, Walk, walk, walk_of}
+use Rattle.device_run.specs.Run.{Lent, with_ring, RunOutcome, run_number, ran_of, run_of}
+use Rattle.history.specs.Calls.{World, perform, perform_all}
+use Rattle.history.specs.Replay.{world, op_of, ops_of, answers_in, Walk, walk, walk_of}
 use Rattle.history.specs.Pairs.{Pair, pair_of}
 
 -- ---- one pair
 
 module _ (kind operand : ℕ) (d : Device) (l : Lent) (n : ℕ) where
-  pub pair-append : (to : List ℕ) (a : AppendAnswer) → kind ≡ 0 → appended a to ≡ appendOf l.ring operand → n ≡ appendNumber a
-      → record { answer = n; count = 0; world = world d (withRing l to) } ≡ pair_of kind operand (world d l)
+  pub pair_append : (to : List ℕ) (a : AppendAnswer) → kind ≡ 0 → appended a to ≡ append_of l.ring operand → n ≡ append_number a
+      → record { answer = n; count = 0; world = world d (with_ring l to) } ≡ pair_of kind operand (world d l)
   unfolding pair_of op_of perform
-  pair-append to a zero q e =
-      rw (eq-eqb _ _ zero, e) (ap (λ (o : Appended). record { answer = o.answer; count = 0; world = world d (withRing l o.ring) }) q)
+  pair_append to a zero q e =
+      rw (eq-eqb _ _ zero, e) (ap (λ (o : Appended). record { answer = o.answer; count = 0; world = world d (with_ring l o.ring) }) q)
 
-  pub pair-run : (r : Ran) (m : Lent) → kind ≢ 0 → ranOf r m ≡ run_of d l operand → n ≡ runNumber r.answer
+  pub pair_run : (r : Ran) (m : Lent) → kind ≢ 0 → ran_of r m ≡ run_of d l operand → n ≡ run_number r.answer
       → record { answer = n; count = r.count; world = world r.device m } ≡ pair_of kind operand (world d l)
   unfolding pair_of op_of perform
-  pair-run r m some q e =
+  pair_run r m some q e =
       rw (ne_eqb _ _ some, e) (ap (λ (o : RunOutcome). record { answer = o.answer; count = o.count; world = world o.device o.lent }) q)
 
 -- ---- the list
@@ -39,18 +39,18 @@ module _ (kind operand : ℕ) (d : Device) (l : Lent) (n : ℕ) where
 abbrev before : List ℕ → Walk → Walk
 before p r = walk (p ++ r.list) r.world
 
-before-before : (p q : List ℕ) (r : Walk) → before p (before q r) ≡ before (p ++ q) r
-before-before p q r = λ i. walk (sym (append_assoc p q r.list) i) r.world
+before_before : (p q : List ℕ) (r : Walk) → before p (before q r) ≡ before (p ++ q) r
+before_before p q r = λ i. walk (sym (append_assoc p q r.list) i) r.world
 
-walk-short : (l : List ℕ) (w : World) → length l ≤ 1 → walk_of l w ≡ walk l w
-unfolding walk_of answersIn ops_of performAll
-walk-short [] w h = refl
-walk-short (k ∷ []) w h = refl
-walk-short (k ∷ x ∷ l) w h = absurd (omega arith)
+walk_short : (l : List ℕ) (w : World) → length l ≤ 1 → walk_of l w ≡ walk l w
+unfolding walk_of answers_in ops_of perform_all
+walk_short [] w h = refl
+walk_short (k ∷ []) w h = refl
+walk_short (k ∷ x ∷ l) w h = absurd (omega arith)
 
 walk_pair : (k x : ℕ) (l : List ℕ) (w : World) (p : Pair) → p ≡ pair_of k x w
     → walk_of (k ∷ x ∷ l) w ≡ before (p.answer ∷ p.count ∷ []) (walk_of l p.world)
-unfolding walk_of answersIn ops_of performAll pair_of
+unfolding walk_of answers_in ops_of perform_all pair_of
 walk_pair k x l w p q = rw q
 
 -- So many words of a list have been walked over: the list has their answers, the rest of it is as it was, and the walk still to do is the whole walk.
@@ -68,18 +68,18 @@ module _ (list : List ℕ) (i a c : ℕ) (there : i + 2 ≤ length list) where
   abbrev wrote : List ℕ
   wrote = set (set list i a) (i + 1) c
 
-  wrote-front : take (i + 2) wrote ≡ take i list ++ (a ∷ c ∷ [])
-  wrote-front =
+  wrote_front : take (i + 2) wrote ≡ take i list ++ (a ∷ c ∷ [])
+  wrote_front =
       rw (add-two i, add-one i)
       (take-suc-set (set list i a) (suc i) c (rw length-set (omega arith))
       ∙ ap (λ (l : List ℕ). l ++ (c ∷ [])) (take-suc-set list i a (omega arith))
       ∙ append_assoc (take i list) (a ∷ []) (c ∷ []))
 
-  wrote-rest : drop (i + 2) wrote ≡ drop (i + 2) list
-  wrote-rest = drop-set-lt (i + 2) (set list i a) (i + 1) c (omega arith) ∙ drop-set-lt (i + 2) list i a (omega arith)
+  wrote_rest : drop (i + 2) wrote ≡ drop (i + 2) list
+  wrote_rest = drop-set-lt (i + 2) (set list i a) (i + 1) c (omega arith) ∙ drop-set-lt (i + 2) list i a (omega arith)
 
-  two-words : drop i list ≡ get_or list i 0 ∷ get_or list (i + 1) 0 ∷ drop (i + 2) list
-  two-words =
+  two_words : drop i list ≡ get_or list i 0 ∷ get_or list (i + 1) 0 ∷ drop (i + 2) list
+  two_words =
       rw (add-two i, add-one i)
       (drop-cons list i 0 (omega arith) ∙ ap (λ (l : List ℕ). get_or list i 0 ∷ l) (drop-cons list (suc i) 0 (omega arith)))
 
@@ -88,16 +88,16 @@ module _ (list₀ : List ℕ) (w₀ : World) (list : List ℕ) (w : World) (i : 
       → Walked list₀ w₀ (set (set list i p.answer) (i + 1) p.count) p.world (i + 2)
   walked_more p there q =
       let on : drop (i + 2) list ≡ drop (i + 2) list₀ = sym (drop-drop 2 i list) ∙ ap (drop 2) h.rest ∙ drop-drop 2 i list₀ in
-      let found = two-words list i p.answer p.count there in
+      let found = two_words list i p.answer p.count there in
       record {
         part = omega (arith, h.same_length);
         same_length = length-set (set list i p.answer) (i + 1) p.count ∙ length-set list i p.answer ∙ h.same_length;
-        rest = wrote-rest list i p.answer p.count there ∙ on;
+        rest = wrote_rest list i p.answer p.count there ∙ on;
         done = h.done
             ∙ ap (before (take i list))
             (ap (λ l. walk_of l w) (sym h.rest ∙ found) ∙ walk_pair (get_or list i 0) (get_or list (i + 1) 0) (drop (i + 2) list) w p q)
-            ∙ before-before (take i list) (p.answer ∷ p.count ∷ []) (walk_of (drop (i + 2) list) p.world)
-            ∙ ap₂ before (sym (wrote-front list i p.answer p.count there)) (ap (λ l. walk_of l p.world) on);
+            ∙ before_before (take i list) (p.answer ∷ p.count ∷ []) (walk_of (drop (i + 2) list) p.world)
+            ∙ ap₂ before (sym (wrote_front list i p.answer p.count there)) (ap (λ l. walk_of l p.world) on);
       }
 
   pub walked_end : length list - i < 2 → walk list w ≡ walk_of list₀ w₀
@@ -105,5 +105,5 @@ module _ (list₀ : List ℕ) (w₀ : World) (list : List ℕ) (w : World) (i : 
       let short : length (drop i list₀) ≤ 1 = rw length-drop (omega (arith, h.same_length)) in
       sym
       (h.done
-      ∙ ap (before (take i list)) (walk-short (drop i list₀) w short)
+      ∙ ap (before (take i list)) (walk_short (drop i list₀) w short)
       ∙ ap (λ l. walk l w) (ap (λ l. take i list ++ l) (sym h.rest) ∙ take-append-drop i list))

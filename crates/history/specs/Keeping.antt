@@ -15,8 +15,8 @@ pub data Keeping (w : World) : Call → Type 0 where
   reads : (index : ℕ) → Keeping w (read index)
   shows : Keeping w picture
   edges : Keeping w offscreen
-  last-fence : Keeping w fence
-  has-passed : (number : ℕ) → Keeping w (passed number)
+  last_fence : Keeping w fence
+  has_passed : (number : ℕ) → Keeping w (passed number)
   -- "refusals aside": refused with a number of documents 01 and 02
   refusal : (c : Call) → 20 ≤ (perform c w).answer → Keeping w c
   -- a register other than ENABLE, WIDTH, HEIGHT and CONFIG_DONE

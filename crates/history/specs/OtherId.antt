@@ -2,17 +2,17 @@
 -- register 0 can tell of them.
 use Rattle.std.specs.Prelude.{ℕ, ◌≡◌, List, [], ◌∷◌, map}
 use Rattle.device.specs.declared.Device.{Device}
-use Rattle.device.specs.Device.{enabledOf, configuredOf, withRegisters}
-use Rattle.register_write.specs.Registers.{setState}
+use Rattle.device.specs.Device.{enabled_of, configured_of, with_registers}
+use Rattle.register_write.specs.Registers.{set_state}
 use Rattle.history.specs.Calls.{World, Call, make, write, read, run, append, submit, picture, offscreen, fence, passed, lend, CallOutcome, History}
 
 -- the device with another id
-abbrev pub withId : Device → ℕ → Device
-withId d id = withRegisters d (setState d.registers id (enabledOf d) (configuredOf d))
+abbrev pub with_id : Device → ℕ → Device
+with_id d id = with_registers d (set_state d.registers id (enabled_of d) (configured_of d))
 
 -- Two worlds, equal but for the id.
 pub record SameButId (w z : World) : Type 0 where
-  pub device : z.device ≡ withId w.device z.device.registers.id
+  pub device : z.device ≡ with_id w.device z.device.registers.id
   pub lent : z.lent ≡ w.lent
   pub output : z.output ≡ w.output
 
@@ -41,10 +41,10 @@ NeverTheId [] = Unit {0}
 NeverTheId (c ∷ cs) = NotTheId c × NeverTheId cs
 
 -- all answers of a history, with their values
-abbrev pub answersIn : History → List (List ℕ)
-answersIn h = map (λ (o : CallOutcome). o.answer ∷ o.values) h.outcomes
+abbrev pub answers_in : History → List (List ℕ)
+answers_in h = map (λ (o : CallOutcome). o.answer ∷ o.values) h.outcomes
 
 -- What calls in a row give on the two.
 pub record SameHistory (h k : History) : Type 0 where
-  pub answers : answersIn k ≡ answersIn h
+  pub answers : answers_in k ≡ answers_in h
   pub world : SameButId h.world k.world

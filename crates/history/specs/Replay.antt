@@ -5,12 +5,12 @@ use Rattle.execution.specs.Claim as C
 use Rattle.ring.specs.declared.Ring.{Ring}
 use Rattle.device.specs.declared.Device.{Device}
 use Rattle.device.specs.declared.Condition.TheVariants.{Running}
-use Rattle.device.specs.Device.{conditionOf}
+use Rattle.device.specs.Device.{condition_of}
 use Rattle.history.specs.declared.Replayed.{Replayed}
 use Rattle.history.specs.declared.Replayed.TheVariants.{Refused, Done}
 use Rattle.device_run.specs.Run.{Lent}
-use Rattle.history.specs.Calls.{World, CallOutcome, History, performAll}
-use Rattle.history.specs.Demand.{isStart, call_of, Shown}
+use Rattle.history.specs.Calls.{World, CallOutcome, History, perform_all}
+use Rattle.history.specs.Demand.{is_start, call_of, Shown}
 
 -- A replay makes no picture, and needs no output.
 abbrev pub world : Device → Lent → World
@@ -27,20 +27,20 @@ ops_of (kind ∷ []) = []
 ops_of (kind ∷ operand ∷ l) = op_of kind operand ∷ ops_of l
 
 -- The first of a call's values: a run's count; an append has none, and its count is 0.
-abbrev pub countIn : List ℕ → ℕ
-countIn [] = 0
-countIn (c ∷ l) = c
+abbrev pub count_in : List ℕ → ℕ
+count_in [] = 0
+count_in (c ∷ l) = c
 
 -- The list with its answers: each pair is replaced by the number that its call answered and its count.
-unfoldable pub answersIn : List ℕ → List CallOutcome → List ℕ
-answersIn [] os = []
-answersIn (kind ∷ []) os = kind ∷ []
-answersIn (kind ∷ operand ∷ l) [] = kind ∷ operand ∷ l
-answersIn (kind ∷ operand ∷ l) (o ∷ os) = o.answer ∷ countIn o.values ∷ answersIn l os
+unfoldable pub answers_in : List ℕ → List CallOutcome → List ℕ
+answers_in [] os = []
+answers_in (kind ∷ []) os = kind ∷ []
+answers_in (kind ∷ operand ∷ l) [] = kind ∷ operand ∷ l
+answers_in (kind ∷ operand ∷ l) (o ∷ os) = o.answer ∷ count_in o.values ∷ answers_in l os
 
 -- All that a list of calls answers and leaves.
-abbrev pub historyOf : List ℕ → World → History
-historyOf list w = performAll (map call_of (ops_of list)) w
+abbrev pub history_of : List ℕ → World → History
+history_of list w = perform_all (map call_of (ops_of list)) w
 
 -- The same as the words of a list and the memories have it.
 pub record Walk : Type 0 where
@@ -51,19 +51,19 @@ abbrev pub walk : List ℕ → World → Walk
 walk list w = record { list = list; world = w }
 
 unfoldable pub walk_of : List ℕ → World → Walk
-walk_of list w = walk (answersIn list (historyOf list w).outcomes) (historyOf list w).world
+walk_of list w = walk (answers_in list (history_of list w).outcomes) (history_of list w).world
 
 -- Each pair of the list was a public call on what the last one left, and all of it together is demand 3.
 pub record Replays (w₀ : World) (list₀ list : List ℕ) (w : World) : Type 0 where
-  pub start : isStart w₀ ≡ true
+  pub start : is_start w₀ ≡ true
   pub calls : walk list w ≡ walk_of list₀ w₀
-  pub demand : (g : Ring) → conditionOf w₀.device ≡ Running g → Shown g w₀ (ops_of list₀) (historyOf list₀ w₀)
+  pub demand : (g : Ring) → condition_of w₀.device ≡ Running g → Shown g w₀ (ops_of list₀) (history_of list₀ w₀)
 
 -- The device and its memories are no start of demand 3, and nothing has changed.
 pub record Refuses (w₀ : World) (list₀ list : List ℕ) (l : Lent) : Type 0 where
-  pub no_start : isStart w₀ ≡ false
-  pub same-list : list ≡ list₀
-  pub same-memories : l ≡ w₀.lent
+  pub no_start : is_start w₀ ≡ false
+  pub same_list : list ≡ list₀
+  pub same_memories : l ≡ w₀.lent
 
 -- What a replay answers and leaves.
 abbrev pub ReplayResult : World → List ℕ → Replayed → List ℕ → Lent → Type 0

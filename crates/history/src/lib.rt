@@ -1,8 +1,8 @@
 // Lists of appends and runs through the public calls, with demand 3 as the contract.
 ghost use Rattle.std.specs.Prelude.{◌≡◌};
 ghost use Rattle.device.specs.declared.Condition.TheVariants.{Running};
-ghost use Rattle.device_run.specs.Run.{lentBefore, lentAfter};
-ghost use Rattle.history.specs.Demand.{ringAtStart, isStart};
+ghost use Rattle.device_run.specs.Run.{lent_before, lent_after};
+ghost use Rattle.history.specs.Demand.{ring_at_start, is_start};
 ghost use Rattle.history.specs.Replay.{world, walk, walk_of, ReplayResult};
 ghost use Rattle.history.specs.Pairs.{performed, pair_of};
 
@@ -18,7 +18,7 @@ pub enum Replayed {
 
 // Whether the ring words say what is remembered, with nothing waiting.
 fn ring_at_start(ring: &[u32], g: Ring) -> bool
-    ensures { result ≡ ringAtStart ring.now (Running g) }
+    ensures { result ≡ ring_at_start ring.now (Running g) }
 {
     let usable = ring::is_usable(ring);
     if !usable {
@@ -37,7 +37,7 @@ fn ring_at_start(ring: &[u32], g: Ring) -> bool
 }
 
 fn condition_at_start(ring: &[u32], condition: Condition) -> bool
-    ensures { result ≡ ringAtStart ring.now condition }
+    ensures { result ≡ ring_at_start ring.now condition }
 {
     match condition {
         Condition::Idle => false,
@@ -55,7 +55,7 @@ pub fn is_start(
     screen: &[u32],
     cursor: &[u32],
 ) -> bool
-    ensures { result ≡ isStart (world d (lentBefore ring framebuffer screen cursor)) }
+    ensures { result ≡ is_start (world d (lent_before ring framebuffer screen cursor)) }
 {
     let ready = adapter::is_ready(d, ring, framebuffer, screen, cursor);
     if !ready {
@@ -82,8 +82,8 @@ fn perform_pair(
     screen: &mut [u32],
     cursor: &mut [u32],
 ) -> Performed
-    ensures { performed result (lentAfter ring framebuffer screen cursor)
-        ≡ pair_of kind operand (world d (lentBefore ring framebuffer screen cursor)) }
+    ensures { performed result (lent_after ring framebuffer screen cursor)
+        ≡ pair_of kind operand (world d (lent_before ring framebuffer screen cursor)) }
 {
     if kind == 0 {
         let taken = ring::append(ring, operand);
@@ -113,8 +113,8 @@ fn walk(
     screen: &mut [u32],
     cursor: &mut [u32],
 ) -> Device
-    ensures { walk list.new (world result (lentAfter ring framebuffer screen cursor))
-        ≡ walk_of list.old (world device (lentBefore ring framebuffer screen cursor)) }
+    ensures { walk list.new (world result (lent_after ring framebuffer screen cursor))
+        ≡ walk_of list.old (world device (lent_before ring framebuffer screen cursor)) }
 {
     let mut d = device;
     let mut i = 0;
@@ -140,8 +140,8 @@ pub fn replay(
     screen: &mut [u32],
     cursor: &mut [u32],
 ) -> Replayed
-    ensures { ReplayResult (world device (lentBefore ring framebuffer screen cursor)) list.old
-        result list.new (lentAfter ring framebuffer screen cursor) }
+    ensures { ReplayResult (world device (lent_before ring framebuffer screen cursor)) list.old
+        result list.new (lent_after ring framebuffer screen cursor) }
 {
     let start = is_start(device, ring, framebuffer, screen, cursor);
     if !start {

@@ -4,16 +4,16 @@ use mathlib.Core.Path.{◌≡◌}
 use mathlib.Core.Bool.{true}
 use native.Mathlib.Omega.{arith}
 use Rattle.device.specs.declared.Device.{Device}
-use Rattle.device.specs.Device.{width_of, wellFormed}
-use Rattle.register_read.specs.Registers.{readOnlyValue}
-use Rattle.offscreen.specs.Offscreen.{offscreenOf}
+use Rattle.device.specs.Device.{width_of, well_formed}
+use Rattle.register_read.specs.Registers.{read_only_value}
+use Rattle.offscreen.specs.Offscreen.{offscreen_of}
 
 -- "The right end is 8·BYTES_PER_LINE divided by bits per pixel": in every mode that is the width
-pub right-is-width : (d : Device) → wellFormed d ≡ true → (offscreenOf d).right ≡ width_of d
-unfolding offscreenOf readOnlyValue
-right-is-width d good = rw good (omega arith)
+pub right_is_width : (d : Device) → well_formed d ≡ true → (offscreen_of d).right ≡ width_of d
+unfolding offscreen_of read_only_value
+right_is_width d good = rw good (omega arith)
 
 -- "A board author asked for the offscreen rectangle at width 1,024 and got 170 columns .. here 1,024"
-pub right-of-1024 : (d : Device) → wellFormed d ≡ true → width_of d ≡ 1024 → (offscreenOf d).right ≡ 1024
-unfolding offscreenOf readOnlyValue
-right-of-1024 d good wide = rw (good, wide)
+pub right_of_1024 : (d : Device) → well_formed d ≡ true → width_of d ≡ 1024 → (offscreen_of d).right ≡ 1024
+unfolding offscreen_of read_only_value
+right_of_1024 d good wide = rw (good, wide)

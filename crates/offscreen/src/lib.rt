@@ -1,6 +1,6 @@
 // The usable offscreen rectangle: what lies behind the mode in the device's pixels.
 ghost use Rattle.std.specs.Prelude.{◌≡◌, ◌*◌, ◌/◌, ◌≤◌};
-ghost use Rattle.offscreen.specs.Offscreen.{ceiling, offscreenOf};
+ghost use Rattle.offscreen.specs.Offscreen.{ceiling, offscreen_of};
 
 use device::{Device, is_well_formed};
 
@@ -32,7 +32,7 @@ fn edges_of(width: u32, height: u32, pixels: u32) -> Edges
 // The usable offscreen rectangle. It may be empty.
 // Rules out: a bottom edge rounded up; a right edge that divides by the depth; four zeros for an empty rectangle.
 pub fn offscreen(d: Device) -> Edges
-    ensures { result ≡ offscreenOf d }
+    ensures { result ≡ offscreen_of d }
 {
     let good = is_well_formed(d);
     if !good {

@@ -1,6 +1,6 @@
 // A finished picture: the screen's rows, with the cursor over them.
 ghost use Rattle.std.specs.Prelude.{◌≡◌, ◌&&◌, ◌*◌, leb};
-ghost use Rattle.raster.specs.Painters.{rowsFit};
+ghost use Rattle.raster.specs.Painters.{rows_fit};
 ghost use Rattle.picture.specs.Picture.{composed};
 
 use cursor::Shape;
@@ -23,7 +23,7 @@ pub enum Overlay {
 
 // The rows lie in the output and in the screen, which have these lengths.
 fn rows_lent(width: u32, rows: u32, output: usize, screen: usize) -> bool
-    ensures { result ≡ (rowsFit width rows output && leb (width * rows) screen) }
+    ensures { result ≡ (rows_fit width rows output && leb (width * rows) screen) }
 {
     if width <= 0 {
         return false;

@@ -7,7 +7,7 @@ use Prim.Native.Nat.{ℕ, zero, suc, ◌+◌, ◌-◌, ◌*◌, ◌/◌, ◌%◌
 use native.Mathlib.Omega.{arith}
 use lib.Bits.{bit_and, bit_or, bit_xor, differ, and_step, or_step, xor_step}
 use lib.Dec.{ltb}
-use Rattle.pixel.specs.RasterOperation.{ruleBit, ruleBits, rasterOp}
+use Rattle.pixel.specs.RasterOperation.{rule_bit, rule_bits, raster_op}
 
 -- `op` is `f` at each bit
 pub record ByBits (op : ℕ → ℕ → ℕ → ℕ) (f : ℕ → ℕ → ℕ) : Type 0 where
@@ -24,8 +24,8 @@ by_bit P a b (suc (suc x)) h = absurd (omega arith)
 pub by_bits : (P : ℕ → ℕ → Type 0) → P 1 1 → P 1 0 → P 0 1 → P 0 0 → (x y : ℕ) → x < 2 → y < 2 → P x y
 by_bits P p₁₁ p₁₀ p₀₁ p₀₀ x y h k = by_bit (λ i. P i y) (by_bit (P 0) p₀₀ p₀₁ y k) (by_bit (P 1) p₁₀ p₁₁ y k) x h
 
-pub differ-bit : (x y : ℕ) → x < 2 → y < 2 → differ x y < 2
-differ-bit = by_bits (λ x y. differ x y < 2) (omega arith) (omega arith) (omega arith) (omega arith)
+pub differ_bit : (x y : ℕ) → x < 2 → y < 2 → differ x y < 2
+differ_bit = by_bits (λ x y. differ x y < 2) (omega arith) (omega arith) (omega arith) (omega arith)
 
 half : (n s : ℕ) → s < 2 ^ suc n → s / 2 < 2 ^ n
 half n s h = omega arith
@@ -76,14 +76,14 @@ module _ {op₁ op₂ : ℕ → ℕ → ℕ → ℕ} {f₁ f₂ : ℕ → ℕ �
         rw (r.step n (op₁ (suc n) s d) (op₂ (suc n) s d) (under a (suc n) s d h k) (under b (suc n) s d h k), p.0, p.1, q.0, q.1);
   }
 
-  pub both-and : ByBits (λ n s d. bit_and (op₁ n s d) (op₂ n s d)) (λ x y. min (f₁ x y) (f₂ x y))
-  both-and = ruled (word bit_and min (λ x y h k. omega arith) refl and_step)
+  pub both_and : ByBits (λ n s d. bit_and (op₁ n s d) (op₂ n s d)) (λ x y. min (f₁ x y) (f₂ x y))
+  both_and = ruled (word bit_and min (λ x y h k. omega arith) refl and_step)
 
-  pub both-or : ByBits (λ n s d. bit_or (op₁ n s d) (op₂ n s d)) (λ x y. max (f₁ x y) (f₂ x y))
-  both-or = ruled (word bit_or max (λ x y h k. omega arith) refl or_step)
+  pub both_or : ByBits (λ n s d. bit_or (op₁ n s d) (op₂ n s d)) (λ x y. max (f₁ x y) (f₂ x y))
+  both_or = ruled (word bit_or max (λ x y h k. omega arith) refl or_step)
 
-  pub both-xor : ByBits (λ n s d. bit_xor (op₁ n s d) (op₂ n s d)) (λ x y. differ (f₁ x y) (f₂ x y))
-  both-xor = ruled (word bit_xor differ differ-bit refl xor_step)
+  pub both_xor : ByBits (λ n s d. bit_xor (op₁ n s d) (op₂ n s d)) (λ x y. differ (f₁ x y) (f₂ x y))
+  both_xor = ruled (word bit_xor differ differ_bit refl xor_step)
 
   pub agree : ((x y : ℕ) → x < 2 → y < 2 → f₁ x y ≡ f₂ x y) → (n s d : ℕ) → s < 2 ^ n → d < 2 ^ n → op₁ n s d ≡ op₂ n s d
   agree e zero s d h k = a.none s d h k ∙ sym (b.none s d h k)
@@ -92,12 +92,12 @@ module _ {op₁ op₂ : ℕ → ℕ → ℕ → ℕ} {f₁ f₂ : ℕ → ℕ �
       ∙ rw (agree e n (s / 2) (d / 2) (half n s h) (half n d k), e (s % 2) (d % 2) (omega arith) (omega arith)) (sym (b.step n s d h k))
 
 -- a raster operation at one bit; 16 and above leave the destination's
-abbrev pub rasterBit : ℕ → ℕ → ℕ → ℕ
-rasterBit rop x y = cond (ltb rop 16) (ruleBit rop x y) y
+abbrev pub raster_bit : ℕ → ℕ → ℕ → ℕ
+raster_bit rop x y = cond (ltb rop 16) (rule_bit rop x y) y
 
-pub rule : (rop : ℕ) → ByBits (ruleBits rop) (ruleBit rop)
+pub rule : (rop : ℕ) → ByBits (rule_bits rop) (rule_bit rop)
 rule rop = record {
-  bit = by_bits (λ x y. ruleBit rop x y < 2) (omega arith) (omega arith) (omega arith) (omega arith);
+  bit = by_bits (λ x y. rule_bit rop x y < 2) (omega arith) (omega arith) (omega arith) (omega arith);
   none = λ s d h k. refl;
   step = λ n s d h k. refl;
 }
@@ -106,12 +106,12 @@ chosen : {op : ℕ → ℕ → ℕ → ℕ} {f : ℕ → ℕ → ℕ} (t : Bool)
 chosen true b = b
 chosen false b = dest
 
-pub raster : (rop : ℕ) → ByBits (λ n s d. cond (ltb rop 16) (ruleBits rop n s d) d) (rasterBit rop)
+pub raster : (rop : ℕ) → ByBits (λ n s d. cond (ltb rop 16) (rule_bits rop n s d) d) (raster_bit rop)
 raster rop = chosen (ltb rop 16) (rule rop)
 
 -- a raster operation, from its four bits
 pub named : {op : ℕ → ℕ → ℕ → ℕ} {f : ℕ → ℕ → ℕ} → ByBits op f → (rop : ℕ)
-    → f 1 1 ≡ rasterBit rop 1 1 → f 1 0 ≡ rasterBit rop 1 0 → f 0 1 ≡ rasterBit rop 0 1 → f 0 0 ≡ rasterBit rop 0 0
-    → (s d : ℕ) → s < 2 ^ 32 → d < 2 ^ 32 → op 32 s d ≡ rasterOp rop s d
-unfolding rasterOp
-named {op} {f} b rop e₁₁ e₁₀ e₀₁ e₀₀ s d = agree b (raster rop) (by_bits (λ x y. f x y ≡ rasterBit rop x y) e₁₁ e₁₀ e₀₁ e₀₀) 32 s d
+    → f 1 1 ≡ raster_bit rop 1 1 → f 1 0 ≡ raster_bit rop 1 0 → f 0 1 ≡ raster_bit rop 0 1 → f 0 0 ≡ raster_bit rop 0 0
+    → (s d : ℕ) → s < 2 ^ 32 → d < 2 ^ 32 → op 32 s d ≡ raster_op rop s d
+unfolding raster_op
+named {op} {f} b rop e₁₁ e₁₀ e₀₁ e₀₀ s d = agree b (raster rop) (by_bits (λ x y. f x y ≡ raster_bit rop x y) e₁₁ e₁₀ e₀₁ e₀₀) 32 s d

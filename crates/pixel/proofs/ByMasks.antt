@@ -10,12 +10,12 @@ use lib.Dec.{T, eqb, eqb→eq}
 use mir.Facts.{and_yes}
 use borrow.Author.Tests.{eqb-true, eqb-false, eq-eqb, ne_eqb}
 use borrow.Table.Steps.{cases}
-use Rattle.pixel.specs.RasterOperation.{rasterOp}
+use Rattle.pixel.specs.RasterOperation.{raster_op}
 use Rattle.pixel.specs.Named.{Operation, entry}
 use Rattle.pixel.specs.declared.Masks.{Masks}
-use Rattle.pixel.specs.Masks.{reducePixel, Reduces, mergePixel, Merges}
-use Rattle.pixel.proofs.Bitwise.{by_bit, by_bits, source, dest, zeros, inverse, both-and, both-xor, ruled, agree, rasterBit, raster}
-use Rattle.pixel.proofs.Named.{named-is}
+use Rattle.pixel.specs.Masks.{reduce_pixel, Reduces, merge_pixel, Merges}
+use Rattle.pixel.proofs.Bitwise.{by_bit, by_bits, source, dest, zeros, inverse, both_and, both_xor, ruled, agree, raster_bit, raster}
+use Rattle.pixel.proofs.Named.{named_is}
 
 -- a function of one bit, by a mask to keep and a mask to flip
 picked : (P : ℕ → ℕ) → P 1 < 2 → P 0 < 2 → (y : ℕ) → y < 2 → differ (min y (differ (P 1) (P 0))) (P 0) ≡ P y
@@ -25,44 +25,44 @@ picked P h k =
     (by_bits (λ a b. differ (min 1 (differ a b)) b ≡ a) refl refl refl refl (P 1) (P 0) h k)
 
 -- the results at a destination of all ones and of 0 give the masks
-pub reduced : (rop s : ℕ) → s < 2 ^ 32 → Reduces rop s (bit_xor (rasterOp rop s 0xFFFF_FFFF) (rasterOp rop s 0)) (rasterOp rop s 0)
-unfolding rasterOp reducePixel
+pub reduced : (rop s : ℕ) → s < 2 ^ 32 → Reduces rop s (bit_xor (raster_op rop s 0xFFFF_FFFF) (raster_op rop s 0)) (raster_op rop s 0)
+unfolding raster_op reduce_pixel
 reduced rop s fits =
     let r = raster rop in
     let flip = ruled source zeros r in
     record {
-      agrees = λ d. agree (both-xor (both-and dest (both-xor (ruled source (inverse zeros) r) flip)) flip) r
-          (λ x y h k. picked (rasterBit rop x) (r.bit x 1 h (omega arith)) (r.bit x 0 h (omega arith)) y k) 32 s d fits;
+      agrees = λ d. agree (both_xor (both_and dest (both_xor (ruled source (inverse zeros) r) flip)) flip) r
+          (λ x y h k. picked (raster_bit rop x) (r.bit x 1 h (omega arith)) (r.bit x 0 h (omega arith)) y k) 32 s d fits;
     }
 
 -- masks of an operation's number, as `pixel::reduce` returns them, make of each destination what the named operation makes of it
-pub reduced-is : (o : Operation) {s keep flip : ℕ} → Reduces (entry o).number s keep flip → (d : ℕ) → s < 2 ^ 32 → d < 2 ^ 32
-    → reducePixel keep flip d ≡ (entry o).words s d
-reduced-is o {s} masks d h k = masks.agrees d k ∙ named-is o s d h k
+pub reduced_is : (o : Operation) {s keep flip : ℕ} → Reduces (entry o).number s keep flip → (d : ℕ) → s < 2 ^ 32 → d < 2 ^ 32
+    → reduce_pixel keep flip d ≡ (entry o).words s d
+reduced_is o {s} masks d h k = masks.agrees d k ∙ named_is o s d h k
 
-pub nothing-kept : (flip d : ℕ) → reducePixel 0 flip d ≡ flip
-unfolding reducePixel
-nothing-kept flip d = rw (and_zero_r d, xor_zero_l flip)
+pub nothing_kept : (flip d : ℕ) → reduce_pixel 0 flip d ≡ flip
+unfolding reduce_pixel
+nothing_kept flip d = rw (and_zero_r d, xor_zero_l flip)
 
 -- what holds by computing at 0 and 1 holds at each bit
 abbrev all : (ℕ → Bool) → Bool
 all p = p 0 && p 1
 
-at-bit : (p : ℕ → Bool) → T (all p) → (x : ℕ) → x < 2 → T (p x)
-at-bit p t = let each = and_yes (p 0) (p 1) t in by_bit (λ x. T (p x)) each.0 each.1
+at_bit : (p : ℕ → Bool) → T (all p) → (x : ℕ) → x < 2 → T (p x)
+at_bit p t = let each = and_yes (p 0) (p 1) t in by_bit (λ x. T (p x)) each.0 each.1
 
 -- the masks at one bit, for an operation that makes a of (1, 1), b of (1, 0), c of (0, 1) and e of (0, 0)
-abbrev productBit : ℕ → ℕ → ℕ → ℕ → ℕ
-productBit a b c e = differ (differ (differ a (differ b e)) (differ c e)) e
+abbrev product_bit : ℕ → ℕ → ℕ → ℕ → ℕ
+product_bit a b c e = differ (differ (differ a (differ b e)) (differ c e)) e
 
-abbrev mergedBit : ℕ → ℕ → ℕ → ℕ → ℕ → ℕ → ℕ
-mergedBit a b c e x y =
-    cond (eqb (productBit a b c e) 0)
+abbrev merged_bit : ℕ → ℕ → ℕ → ℕ → ℕ → ℕ → ℕ
+merged_bit a b c e x y =
+    cond (eqb (product_bit a b c e) 0)
     (differ (min y (differ c e)) (differ (min x (differ b e)) e))
     (differ (min (differ x (differ c e)) (differ y (differ b e))) (differ (min (differ c e) (differ b e)) e))
 
 abbrev right₆ : ℕ → ℕ → ℕ → ℕ → ℕ → ℕ → Bool
-right₆ a b c e x y = eqb (mergedBit a b c e x y) (cond (eqb x 0) (cond (eqb y 0) e c) (cond (eqb y 0) b a))
+right₆ a b c e x y = eqb (merged_bit a b c e x y) (cond (eqb x 0) (cond (eqb y 0) e c) (cond (eqb y 0) b a))
 
 abbrev right₅ : ℕ → ℕ → ℕ → ℕ → ℕ → Bool
 right₅ a b c e x = all (right₆ a b c e x)
@@ -76,9 +76,9 @@ right₃ a b c = all (right₄ a b c)
 abbrev right₂ : ℕ → ℕ → Bool
 right₂ a b = all (right₃ a b)
 
-merged-bit : (f : ℕ → ℕ → ℕ) → ((x y : ℕ) → x < 2 → y < 2 → f x y < 2) → (x y : ℕ) → x < 2 → y < 2
-    → mergedBit (f 1 1) (f 1 0) (f 0 1) (f 0 0) x y ≡ f x y
-merged-bit f bit x y h k =
+merged_bit_lem : (f : ℕ → ℕ → ℕ) → ((x y : ℕ) → x < 2 → y < 2 → f x y < 2) → (x y : ℕ) → x < 2 → y < 2
+    → merged_bit (f 1 1) (f 1 0) (f 0 1) (f 0 0) x y ≡ f x y
+merged_bit_lem f bit x y h k =
     let a = f 1 1 in
     let b = f 1 0 in
     let c = f 0 1 in
@@ -86,49 +86,49 @@ merged-bit f bit x y h k =
     let i : 0 < 2 = omega arith in
     let j : 1 < 2 = omega arith in
     let all_right : T (all (λ a. all (right₂ a))) = tt in
-    let at-four = at-bit (right₄ a b c) (at-bit (right₃ a b) (at-bit (right₂ a) (at-bit (λ a. all (right₂ a)) all_right a (bit 1 1 j j)) b (bit 1 0 j i)) c (bit 0 1 i j)) e (bit 0 0 i i) in
-    eqb→eq _ _ (at-bit (right₆ a b c e x) (at-bit (right₅ a b c e) at-four x h) y k)
+    let at-four = at_bit (right₄ a b c) (at_bit (right₃ a b) (at_bit (right₂ a) (at_bit (λ a. all (right₂ a)) all_right a (bit 1 1 j j)) b (bit 1 0 j i)) c (bit 0 1 i j)) e (bit 0 0 i i) in
+    eqb→eq _ _ (at_bit (right₆ a b c e x) (at_bit (right₅ a b c e) at-four x h) y k)
     ∙ by_bits (λ x y. cond (eqb x 0) (cond (eqb y 0) e c) (cond (eqb y 0) b a) ≡ f x y) refl refl refl refl x y h k
 
 -- the masks, from the results at sources and destinations of all ones and of 0
-unfoldable pub masksOf : ℕ → Masks
-masksOf rop =
-    let constant = rasterOp rop 0 0 in
-    let source = bit_xor (rasterOp rop 0xFFFF_FFFF 0) constant in
-    let dest = bit_xor (rasterOp rop 0 0xFFFF_FFFF) constant in
+unfoldable pub masks_of : ℕ → Masks
+masks_of rop =
+    let constant = raster_op rop 0 0 in
+    let source = bit_xor (raster_op rop 0xFFFF_FFFF 0) constant in
+    let dest = bit_xor (raster_op rop 0 0xFFFF_FFFF) constant in
     record {
-      product = bit_xor (bit_xor (bit_xor (rasterOp rop 0xFFFF_FFFF 0xFFFF_FFFF) source) dest) constant;
+      product = bit_xor (bit_xor (bit_xor (raster_op rop 0xFFFF_FFFF 0xFFFF_FFFF) source) dest) constant;
       source = source;
       dest = dest;
       constant = constant;
     }
 
-merged-words : (rop s d : ℕ) → s < 2 ^ 32 → d < 2 ^ 32 → mergePixel (masksOf rop) s d ≡ rasterOp rop s d
-unfolding rasterOp mergePixel masksOf
-merged-words rop s d h k =
+merged_words : (rop s d : ℕ) → s < 2 ^ 32 → d < 2 ^ 32 → merge_pixel (masks_of rop) s d ≡ raster_op rop s d
+unfolding raster_op merge_pixel masks_of
+merged_words rop s d h k =
     let r = raster rop in
     let ones = inverse zeros in
     let constant = ruled zeros zeros r in
-    let of-source = both-xor (ruled ones zeros r) constant in
-    let of-dest = both-xor (ruled zeros ones r) constant in
-    let product = both-xor (both-xor (both-xor (ruled ones ones r) of-source) of-dest) constant in
-    let f = rasterBit rop in
-    let bit = productBit (f 1 1) (f 1 0) (f 0 1) (f 0 0) in
+    let of-source = both_xor (ruled ones zeros r) constant in
+    let of-dest = both_xor (ruled zeros ones r) constant in
+    let product = both_xor (both_xor (both_xor (ruled ones ones r) of-source) of-dest) constant in
+    let f = raster_bit rop in
+    let bit = product_bit (f 1 1) (f 1 0) (f 0 1) (f 0 0) in
     cases (eqb bit 0)
     (λ t.
     let z = agree product zeros (λ x y _ _. eqb-true bit 0 t) 32 s d h k in
     rw (eq-eqb _ 0 z)
-    (agree (both-xor (both-and dest of-dest) (both-xor (both-and source of-source) constant)) r (λ x y i j. rw t at (merged-bit f r.bit x y i j)) 32 s d h k))
+    (agree (both_xor (both_and dest of-dest) (both_xor (both_and source of-source) constant)) r (λ x y i j. rw t at (merged_bit_lem f r.bit x y i j)) 32 s d h k))
     (λ n.
     let one : bit ≡ 1 = let b = product.bit 0 0 (omega arith) (omega arith) in let u = eqb-false bit 0 n in omega arith in
     let z = agree product ones (λ x y _ _. one) 32 s d h k in
     rw (ne_eqb _ 0 (λ e. let w : 4294967295 ≡ 0 = sym z ∙ e in omega arith))
-    (agree (both-xor (both-and (both-xor source of-dest) (both-xor dest of-source)) (both-xor (both-and of-dest of-source) constant)) r
-    (λ x y i j. rw n at (merged-bit f r.bit x y i j)) 32 s d h k))
+    (agree (both_xor (both_and (both_xor source of-dest) (both_xor dest of-source)) (both_xor (both_and of-dest of-source) constant)) r
+    (λ x y i j. rw n at (merged_bit_lem f r.bit x y i j)) 32 s d h k))
 
-pub merged : (rop : ℕ) → Merges rop (masksOf rop)
-merged rop = record { agrees = merged-words rop }
+pub merged : (rop : ℕ) → Merges rop (masks_of rop)
+merged rop = record { agrees = merged_words rop }
 
 -- as above, for masks as `pixel::masks_of` returns them
-pub merged-is : (o : Operation) {m : Masks} → Merges (entry o).number m → (s d : ℕ) → s < 2 ^ 32 → d < 2 ^ 32 → mergePixel m s d ≡ (entry o).words s d
-merged-is o masks s d h k = masks.agrees s d h k ∙ named-is o s d h k
+pub merged_is : (o : Operation) {m : Masks} → Merges (entry o).number m → (s d : ℕ) → s < 2 ^ 32 → d < 2 ^ 32 → merge_pixel m s d ≡ (entry o).words s d
+merged_is o masks s d h k = masks.agrees s d h k ∙ named_is o s d h k

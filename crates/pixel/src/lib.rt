@@ -1,7 +1,7 @@
 // One pixel: the sixteen raster operations, their masks, and the blend of a cursor pixel.
 ghost use Rattle.std.specs.Prelude.{◌≡◌, ◌≤◌};
-ghost use Rattle.pixel.specs.RasterOperation.{rasterOp};
-ghost use Rattle.pixel.specs.Blend.{blendColour, blendPixel};
+ghost use Rattle.pixel.specs.RasterOperation.{raster_op};
+ghost use Rattle.pixel.specs.Blend.{blend_colour, blend_pixel};
 ghost use Rattle.pixel.specs.Masks.{Reduces, PixelReduced, Merges, PixelMerged};
 
 // The X protocol's raster operations, by name and number.
@@ -40,7 +40,7 @@ pub const SET: u32 = 15;
 // An operation on words, s the source and d the destination. A number above 15 is none of them and leaves d.
 // Rules out: an operation with s and d exchanged (AND_REVERSE for AND_INVERTED); one that treats 16 as 0.
 pub fn raster_op(rop: u32, s: u32, d: u32) -> u32
-    ensures { result ≡ rasterOp rop s d }
+    ensures { result ≡ raster_op rop s d }
 {
     match rop {
         CLEAR => 0,
@@ -133,7 +133,7 @@ pub fn merge_pixel(m: Masks, s: u32, d: u32) -> u32
 // One colour of a cursor pixel with top byte a, over one colour of the pixel below.
 fn blend_colour(a: u32, cursor: u32, below: u32) -> u32
     requires { (a ≤ 255) × (cursor ≤ 255) × (below ≤ 255) }
-    ensures { result ≡ blendColour a cursor below }
+    ensures { result ≡ blend_colour a cursor below }
 {
     (a * cursor + (255 - a) * below + 127) / 255
 }
@@ -141,7 +141,7 @@ fn blend_colour(a: u32, cursor: u32, below: u32) -> u32
 // A cursor pixel over a screen pixel.
 // Rules out: rounding down (a 128, 1 over 0 gives 1); the screen's top byte kept.
 pub fn blend(cursor: u32, below: u32) -> u32
-    ensures { result ≡ blendPixel cursor below }
+    ensures { result ≡ blend_pixel cursor below }
 {
     let a = cursor / 16777216 % 256;
     let red = blend_colour(a, cursor / 65536 % 256, below / 65536 % 256);

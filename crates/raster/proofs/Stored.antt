@@ -10,35 +10,35 @@ use lib.ListN.{length, get_or}
 use borrow.Rule.Slice.PartMut.{mid_of, put_mid}
 use borrow.Table.Steps.{cases}
 use Rattle.geometry.specs.Pixels.{within, tabulate}
-use Rattle.geometry.proofs.Tests.{within-out}
-use Rattle.geometry.proofs.Tabulate.{is-tabulate}
-use Rattle.geometry.proofs.Painted.{put-painted, length-painted, getD-painted}
+use Rattle.geometry.proofs.Tests.{within_out}
+use Rattle.geometry.proofs.Tabulate.{is_tabulate}
+use Rattle.geometry.proofs.Painted.{put_painted, length-painted, get_or-painted}
 
 -- A row of n pixels, of which the first i have the colour.
 pub record Stored (c n i : ℕ) (l : List ℕ) : Type 0 where
   pub size : length l ≡ n
   pub front : (k : ℕ) → k < i → get_or l k 0 ≡ c
 
-pub none-stored : (c : ℕ) (l : List ℕ) → Stored c (length l) 0 l
-none-stored c l = record { size = refl; front = λ k h. absurd (omega arith) }
+pub none_stored : (c : ℕ) (l : List ℕ) → Stored c (length l) 0 l
+none_stored c l = record { size = refl; front = λ k h. absurd (omega arith) }
 
 module _ {c n i : ℕ} {l : List ℕ} (s : Stored c n i l) where
   -- p pixels from at on, which no gap parts from the first i: a part that was lent and is back
-  pub part-stored : (row : List ℕ) (at p : ℕ) → at ≤ i → at + p ≤ n → row ≡ tabulate (length (mid_of at p l)) (λ k. c)
+  pub part_stored : (row : List ℕ) (at p : ℕ) → at ≤ i → at + p ≤ n → row ≡ tabulate (length (mid_of at p l)) (λ k. c)
       → Stored c n (at + p) (put_mid at p l row)
-  part-stored row at p behind fits is =
-      let new = put-painted l row at p (λ k. c) (omega (arith, s.size)) is in
+  part_stored row at p behind fits is =
+      let new = put_painted l row at p (λ k. c) (omega (arith, s.size)) is in
       record {
         size = ap length new ∙ length-painted (within at p) (λ k. c) l ∙ s.size;
-        front = λ k h. rw (new, getD-painted (within at p) (λ k. c) l k (omega (arith, s.size)))
+        front = λ k h. rw (new, get_or-painted (within at p) (λ k. c) l k (omega (arith, s.size)))
             (cases (within at p k) (λ t. rw t) (λ f. rw f (s.front k (before k h f))));
       }
     where
       before : (k : ℕ) → k < at + p → within at p k ≡ false → k < i
-      before k h f = ⊎_elim (λ (b : k < at). omega arith) (λ (b : at + p ≤ k). omega arith) (within-out at p k f)
+      before k h f = ⊎_elim (λ (b : k < at). omega arith) (λ (b : at + p ≤ k). omega arith) (within_out at p k f)
 
-  pub fewer-stored : (j : ℕ) → j ≤ i → Stored c n j l
-  fewer-stored j h = record { size = s.size; front = λ k q. s.front k (omega arith) }
+  pub fewer_stored : (j : ℕ) → j ≤ i → Stored c n j l
+  fewer_stored j h = record { size = s.size; front = λ k q. s.front k (omega arith) }
 
-  pub all-stored : n ≤ i → l ≡ tabulate n (λ k. c)
-  all-stored h = is-tabulate l n (λ k. c) s.size (λ k q. s.front k (omega arith))
+  pub all_stored : n ≤ i → l ≡ tabulate n (λ k. c)
+  all_stored h = is_tabulate l n (λ k. c) s.size (λ k q. s.front k (omega arith))

@@ -3,9 +3,9 @@
 ghost use Rattle.std.specs.Prelude.{◌≡◌, Bool, ◌&&◌, ◌+◌, ◌≤◌, ◌<◌, eqb, length, get_or};
 ghost use Rattle.geometry.specs.Pixels.{tabulate};
 ghost use Rattle.geometry.specs.Parts.{front, moved, next, Inside, Ordered, after};
-ghost use Rattle.pixel.specs.Masks.{reducePixel, mergePixel};
-ghost use Rattle.raster.specs.Painters.{maxWidth, rowsFit, filled, updated, copied};
-ghost use Rattle.raster.specs.CutPainters.{storedIn, reducedCut, filledCut, updatedCut, movedCut, copiedCut};
+ghost use Rattle.pixel.specs.Masks.{reduce_pixel, merge_pixel};
+ghost use Rattle.raster.specs.Painters.{max_width, rows_fit, filled, updated, copied};
+ghost use Rattle.raster.specs.CutPainters.{stored_in, reduced_cut, filled_cut, updated_cut, moved_cut, copied_cut};
 
 use geometry::{Cut, Rect};
 use pixel::Masks;
@@ -14,7 +14,7 @@ use pixel::Masks;
 pub const MAX_WIDTH: u32 = 2560;
 
 fn rows_fit(width: u32, rows: u32, len: usize) -> bool
-    ensures { result ≡ rowsFit width rows len }
+    ensures { result ≡ rows_fit width rows len }
 {
     if width <= 0 {
         return false;
@@ -40,7 +40,7 @@ fn store_row(row: &mut [u32], colour: u32)
 
 // One row of any fill: of each pixel the bits of keep, then those of flip turned over.
 fn reduce_row(row: &mut [u32], keep: u32, flip: u32)
-    ensures { row.new ≡ tabulate (length row.old) (λ i. reducePixel keep flip (get_or row.old i 0)) }
+    ensures { row.new ≡ tabulate (length row.old) (λ i. reduce_pixel keep flip (get_or row.old i 0)) }
 {
     let mut i = 0;
     while i < row.len() {
@@ -92,7 +92,7 @@ fn store_rows(
     colour: u32,
 )
     requires { Inside width left top wide high (length screen.old) }
-    ensures { screen.new ≡ storedIn width left top wide high colour screen.old }
+    ensures { screen.new ≡ stored_in width left top wide high colour screen.old }
 {
     let step = width as usize;
     let x = left as usize;
@@ -112,7 +112,7 @@ fn store_rows(
 // A single pixel: no loop.
 fn store_pixel(screen: &mut [u32], width: u32, x: u32, y: u32, colour: u32)
     requires { Inside width x y 1 1 (length screen.old) }
-    ensures { screen.new ≡ storedIn width x y 1 1 colour screen.old }
+    ensures { screen.new ≡ stored_in width x y 1 1 colour screen.old }
 {
     let at = y as usize * width as usize + x as usize;
     let past = at + 1;
@@ -122,7 +122,7 @@ fn store_pixel(screen: &mut [u32], width: u32, x: u32, y: u32, colour: u32)
 // The rows of a fill that keeps something of the old pixels.
 fn reduce_rows(screen: &mut [u32], width: u32, area: Rect, keep: u32, flip: u32)
     requires { Inside width area.x area.y area.w area.h (length screen.old) }
-    ensures { screen.new ≡ reducedCut width area keep flip screen.old }
+    ensures { screen.new ≡ reduced_cut width area keep flip screen.old }
 {
     let step = width as usize;
     let x = area.x as usize;
@@ -140,7 +140,7 @@ fn reduce_rows(screen: &mut [u32], width: u32, area: Rect, keep: u32, flip: u32)
 
 fn reduce_cut(screen: &mut [u32], width: u32, area: Rect, colour: u32, rop: u32)
     requires { Inside width area.x area.y area.w area.h (length screen.old) }
-    ensures { screen.new ≡ filledCut width area colour rop screen.old }
+    ensures { screen.new ≡ filled_cut width area colour rop screen.old }
 {
     let r = pixel::reduce(rop, colour);
     if r.keep == 0 {
@@ -161,7 +161,7 @@ fn is_pixel(area: Rect) -> bool
 
 fn fill_cut(screen: &mut [u32], width: u32, area: Rect, colour: u32, rop: u32)
     requires { Inside width area.x area.y area.w area.h (length screen.old) }
-    ensures { screen.new ≡ filledCut width area colour rop screen.old }
+    ensures { screen.new ≡ filled_cut width area colour rop screen.old }
 {
     if rop != 3 {
         reduce_cut(screen, width, area, colour, rop);
@@ -208,7 +208,7 @@ fn put_row(row: &mut [u32], src: &[u32])
 fn update_cut(framebuffer: &[u32], screen: &mut [u32], width: u32, area: Rect)
     requires inside { Inside width area.x area.y area.w area.h (length screen.old) }
     requires inside_2 { Inside width area.x area.y area.w area.h (length framebuffer.now) }
-    ensures { screen.new ≡ updatedCut width area framebuffer.now screen.old }
+    ensures { screen.new ≡ updated_cut width area framebuffer.now screen.old }
 {
     let step = width as usize;
     let x = area.x as usize;
@@ -261,7 +261,7 @@ fn take_line(line: &mut [u32], src: &[u32])
 // One row of a plain copy, n pixels. The two parts may overlap: the source is read whole before a pixel is written.
 // It compiles to one memmove.
 fn move_row(screen: &mut [u32], from: usize, to: usize, n: usize)
-    requires { (n ≤ maxWidth) × (from + n ≤ length screen.old) × (to + n ≤ length screen.old) }
+    requires { (n ≤ max_width) × (from + n ≤ length screen.old) × (to + n ≤ length screen.old) }
     ensures { screen.new ≡ moved from to n (λ s d. s) screen.old }
 {
     let mut line = [0u32; MAX_WIDTH as usize];
@@ -305,7 +305,7 @@ fn move_back(screen: &mut [u32], from: usize, to: usize, n: usize)
 
 // One row of a plain copy, of any length.
 fn plain_row(screen: &mut [u32], from: usize, to: usize, n: usize, back: bool)
-    requires n_le_max_width { (n ≤ maxWidth) × (from + n ≤ length screen.old) × (to + n ≤ length screen.old) }
+    requires n_le_max_width { (n ≤ max_width) × (from + n ≤ length screen.old) × (to + n ≤ length screen.old) }
     requires ordered { Ordered back from to }
     ensures { screen.new ≡ moved from to n (λ s d. s) screen.old }
 {
@@ -323,7 +323,7 @@ fn plain_row(screen: &mut [u32], from: usize, to: usize, n: usize, back: bool)
 // The masks' operation of the line and the row, in the row.
 fn merge_line(row: &mut [u32], line: &[u32], m: Masks)
     requires { length row.old ≤ length line.now }
-    ensures { row.new ≡ tabulate (length row.old) (λ i. mergePixel m (get_or line.now i 0) (get_or row.old i 0)) }
+    ensures { row.new ≡ tabulate (length row.old) (λ i. merge_pixel m (get_or line.now i 0) (get_or row.old i 0)) }
 {
     let mut i = 0;
     while i < row.len() {
@@ -335,7 +335,7 @@ fn merge_line(row: &mut [u32], line: &[u32], m: Masks)
 // As move_row with the masks' operation, for at most 32 pixels: with a fixed number the line stays in registers.
 fn merge_piece(screen: &mut [u32], from: usize, to: usize, n: usize, m: Masks)
     requires { (n ≤ 32) × (from + n ≤ length screen.old) × (to + n ≤ length screen.old) }
-    ensures { screen.new ≡ moved from to n (mergePixel m) screen.old }
+    ensures { screen.new ≡ moved from to n (merge_pixel m) screen.old }
 {
     let mut line = [0u32; 32];
     let e = from + n;
@@ -347,7 +347,7 @@ fn merge_piece(screen: &mut [u32], from: usize, to: usize, n: usize, m: Masks)
 // Part of a row pixel by pixel, from the front: for a destination that is not behind its source.
 fn pixels_forward(screen: &mut [u32], from: usize, to: usize, n: usize, m: Masks)
     requires { (to ≤ from) × (from + n ≤ length screen.old) }
-    ensures { screen.new ≡ moved from to n (mergePixel m) screen.old }
+    ensures { screen.new ≡ moved from to n (merge_pixel m) screen.old }
 {
     let mut done = 0;
     while done < n {
@@ -359,7 +359,7 @@ fn pixels_forward(screen: &mut [u32], from: usize, to: usize, n: usize, m: Masks
 // The same from the back: for a destination that is not before its source.
 fn pixels_back(screen: &mut [u32], from: usize, to: usize, n: usize, m: Masks)
     requires { (from ≤ to) × (to + n ≤ length screen.old) }
-    ensures { screen.new ≡ moved from to n (mergePixel m) screen.old }
+    ensures { screen.new ≡ moved from to n (merge_pixel m) screen.old }
 {
     let mut done = 0;
     while done < n {
@@ -372,7 +372,7 @@ fn pixels_back(screen: &mut [u32], from: usize, to: usize, n: usize, m: Masks)
 // A row of any length, 32 pixels at a time, and then the rest.
 fn merge_forward(screen: &mut [u32], from: usize, to: usize, n: usize, m: Masks)
     requires { (to ≤ from) × (from + n ≤ length screen.old) }
-    ensures { screen.new ≡ moved from to n (mergePixel m) screen.old }
+    ensures { screen.new ≡ moved from to n (merge_pixel m) screen.old }
 {
     let mut done = 0;
     while 32 <= n - done {
@@ -384,7 +384,7 @@ fn merge_forward(screen: &mut [u32], from: usize, to: usize, n: usize, m: Masks)
 
 fn merge_back(screen: &mut [u32], from: usize, to: usize, n: usize, m: Masks)
     requires { (from ≤ to) × (to + n ≤ length screen.old) }
-    ensures { screen.new ≡ moved from to n (mergePixel m) screen.old }
+    ensures { screen.new ≡ moved from to n (merge_pixel m) screen.old }
 {
     let mut done = 0;
     while 32 <= n - done {
@@ -399,7 +399,7 @@ fn merge_back(screen: &mut [u32], from: usize, to: usize, n: usize, m: Masks)
 fn copy_row(screen: &mut [u32], from: usize, to: usize, n: usize, m: Masks, back: bool)
     requires n_in_bounds { (from + n ≤ length screen.old) × (to + n ≤ length screen.old) }
     requires ordered { Ordered back from to }
-    ensures { screen.new ≡ moved from to n (mergePixel m) screen.old }
+    ensures { screen.new ≡ moved from to n (merge_pixel m) screen.old }
 {
     if back {
         merge_back(screen, from, to, n, m);
@@ -433,8 +433,8 @@ fn next_row(back: bool, n: usize, done: usize) -> usize
 fn move_cut(screen: &mut [u32], width: u32, sx: u32, sy: u32, area: Rect)
     requires inside { Inside width area.x area.y area.w area.h (length screen.old) }
     requires inside_2 { Inside width sx sy area.w area.h (length screen.old) }
-    requires width_le_max_width { width ≤ maxWidth }
-    ensures { screen.new ≡ movedCut width sx sy area screen.old }
+    requires width_le_max_width { width ≤ max_width }
+    ensures { screen.new ≡ moved_cut width sx sy area screen.old }
 {
     let up = comes_after(sx, sy, area.x, area.y);
     let step = width as usize;
@@ -458,7 +458,7 @@ fn move_cut(screen: &mut [u32], width: u32, sx: u32, sy: u32, area: Rect)
 fn merge_cut(screen: &mut [u32], width: u32, sx: u32, sy: u32, area: Rect, rop: u32)
     requires inside { Inside width area.x area.y area.w area.h (length screen.old) }
     requires inside_2 { Inside width sx sy area.w area.h (length screen.old) }
-    ensures { screen.new ≡ copiedCut width sx sy area rop screen.old }
+    ensures { screen.new ≡ copied_cut width sx sy area rop screen.old }
 {
     let m = pixel::masks_of(rop);
     let back = comes_after(sx, sy, area.x, area.y);
@@ -482,8 +482,8 @@ fn merge_cut(screen: &mut [u32], width: u32, sx: u32, sy: u32, area: Rect, rop: 
 fn copy_cut(screen: &mut [u32], width: u32, sx: u32, sy: u32, area: Rect, rop: u32)
     requires inside { Inside width area.x area.y area.w area.h (length screen.old) }
     requires inside_2 { Inside width sx sy area.w area.h (length screen.old) }
-    requires width_le_max_width { width ≤ maxWidth }
-    ensures { screen.new ≡ copiedCut width sx sy area rop screen.old }
+    requires width_le_max_width { width ≤ max_width }
+    ensures { screen.new ≡ copied_cut width sx sy area rop screen.old }
 {
     if rop == 3 {
         move_cut(screen, width, sx, sy, area);

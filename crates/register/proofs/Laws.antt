@@ -10,7 +10,7 @@ use mir.Facts.{and_yes}
 use borrow.Author.Tests.{ne_eqb}
 use Rattle.register.specs.declared.Register.{Register}
 use Rattle.register.specs.declared.Register.TheVariants.{Writes, Reads, Absent}
-use Rattle.register.specs.Numbers.{Numbered, numbers, among, registerOf}
+use Rattle.register.specs.Numbers.{Numbered, numbers, among, register_of}
 
 -- every number of the table is below n
 abbrev below : ℕ → List Numbered → Bool
@@ -24,8 +24,8 @@ past n i (r ∷ rs) t h =
     let low = ltb→lt r.number n both.0 in
     rw (ne_eqb i r.number (λ e. omega (arith, e))) (past n i rs both.1 h)
 
-pub absent : (i : ℕ) → 29 ≤ i → registerOf i ≡ Absent
-unfolding registerOf numbers
+pub absent : (i : ℕ) → 29 ≤ i → register_of i ≡ Absent
+unfolding register_of numbers
 absent i = past 29 i numbers tt
 
 -- the test p passes at every number below n
@@ -43,6 +43,6 @@ there (Writes w) = true
 there (Reads r) = true
 there Absent = false
 
-pub offered : (i : ℕ) → i < 29 → registerOf i ≡ Absent → ⊥
-unfolding registerOf numbers
-offered i h e = subst (λ r. T (there r)) e (at 29 (λ i. there (registerOf i)) tt i h)
+pub offered : (i : ℕ) → i < 29 → register_of i ≡ Absent → ⊥
+unfolding register_of numbers
+offered i h e = subst (λ r. T (there r)) e (at 29 (λ i. there (register_of i)) tt i h)

@@ -52,8 +52,8 @@ abbrev pub among : ℕ → List Numbered → Register
 among index [] = Absent
 among index (r ∷ rs) = cond (eqb index r.number) r.register (among index rs)
 
-unfoldable pub registerOf : ℕ → Register
-registerOf index = among index numbers
+unfoldable pub register_of : ℕ → Register
+register_of index = among index numbers
 
 -- A register's number, by the same table; an absent one has none: 29 is past the table.
 abbrev pub number_of : Register → ℕ

@@ -1,6 +1,6 @@
 // Register numbers, as svga_reg.h has them.
 ghost use Rattle.std.specs.Prelude.{◌≡◌};
-ghost use Rattle.register.specs.Numbers.{registerOf};
+ghost use Rattle.register.specs.Numbers.{register_of};
 
 #[derive(Drop)]
 pub enum Writable {
@@ -49,7 +49,7 @@ pub enum Register {
 // The register with a number.
 // Rules out: 28 taken for absent; a palette register (1024 and on) taken for one that is there.
 pub fn register_of(index: u32) -> Register
-    ensures { result ≡ registerOf index }
+    ensures { result ≡ register_of index }
 {
     match index {
         0 => Register::Writes(Writable::Id),

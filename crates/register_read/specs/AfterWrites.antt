@@ -8,8 +8,8 @@ use Rattle.register.specs.Numbers.{number_of}
 use Rattle.device.specs.declared.Condition.{Condition}
 use Rattle.device.specs.declared.Condition.TheVariants.{Idle, Running, Faulted}
 use Rattle.device.specs.declared.Device.{Device}
-use Rattle.device.specs.Device.{enabledOf, configuredOf, conditionOf}
-use Rattle.register_write.specs.Registers.{isId}
+use Rattle.device.specs.Device.{enabled_of, configured_of, condition_of}
+use Rattle.register_write.specs.Registers.{is_id}
 
 -- The registers whose reading a write can change: its own, "12 BYTES_PER_LINE 4·width", "16 FB_SIZE 4·width·height", and "22 BUSY", which "SYNC sets" and
 -- "Writing 0 to ENABLE or CONFIG_DONE clears". "SYNC reads 0", always.
@@ -38,17 +38,17 @@ affects w r = has (number_of r) (affected w)
 
 -- "Each reads back the value last taken, ID and SYNC as said." ID: "0x90000000, ..01, ..02 are stored; any other value is taken and changes nothing", so it
 -- reads the old one. "SYNC reads 0."
-unfoldable pub readBack : ℕ → ℕ → ℕ → ℕ
-readBack index v old = cond (eqb index 0) (cond (isId v) v old) (cond (eqb index 21) 0 v)
+unfoldable pub read_back : ℕ → ℕ → ℕ → ℕ
+read_back index v old = cond (eqb index 0) (cond (is_id v) v old) (cond (eqb index 21) 0 v)
 
-abbrev pub faultStands : Condition → Bool
-faultStands Idle = false
-faultStands (Running g) = false
-faultStands (Faulted c) = true
+abbrev pub fault_stands : Condition → Bool
+fault_stands Idle = false
+fault_stands (Running g) = false
+fault_stands (Faulted c) = true
 
 -- "SYNC sets BUSY to 1 if the device is configured, enabled and without fault; otherwise nothing. Writing 0 to ENABLE or CONFIG_DONE clears BUSY." No other
 -- write changes it: neither ENABLE 1 nor CONFIG_DONE 1, nor one that is refused.
-unfoldable pub busyAfterWrite : Device → ℕ → ℕ → Bool
-busyAfterWrite d index v =
-    cond (eqb index 21) (cond (configuredOf d && (enabledOf d && not (faultStands (conditionOf d)))) true d.busy)
+unfoldable pub busy_after_write : Device → ℕ → ℕ → Bool
+busy_after_write d index v =
+    cond (eqb index 21) (cond (configured_of d && (enabled_of d && not (fault_stands (condition_of d)))) true d.busy)
     (cond ((eqb index 1 || eqb index 20) && eqb v 0) false d.busy)

@@ -1,8 +1,8 @@
 // What registers read.
 ghost use Rattle.std.specs.Prelude.{◌≡◌, true};
-ghost use Rattle.device.specs.Device.{wellFormed, width_of, heightOf};
+ghost use Rattle.device.specs.Device.{well_formed, width_of, height_of};
 ghost use Rattle.register_read.specs.Answers.{reading};
-ghost use Rattle.register_read.specs.Registers.{bit, writableValue, readOnlyValue, read_of};
+ghost use Rattle.register_read.specs.Registers.{bit, writable_value, read_only_value, read_of};
 
 use device::{Device, MAX_HEIGHT, MAX_WIDTH, Registers, is_well_formed};
 use register::{ReadOnly, Register, Writable};
@@ -23,7 +23,7 @@ fn bit_of(b: bool) -> u32
 }
 
 fn writable_value(g: Registers, w: Writable) -> u32
-    ensures { result ≡ writableValue g w }
+    ensures { result ≡ writable_value g w }
 {
     match w {
         Writable::Id => g.id,
@@ -41,8 +41,8 @@ fn writable_value(g: Registers, w: Writable) -> u32
 }
 
 fn read_only_value(d: Device, r: ReadOnly) -> u32
-    requires { wellFormed d ≡ true }
-    ensures { result ≡ readOnlyValue d.sizes (width_of d) (heightOf d) d.busy r }
+    requires { well_formed d ≡ true }
+    ensures { result ≡ read_only_value d.sizes (width_of d) (height_of d) d.busy r }
 {
     let sizes = d.sizes;
     let g = d.registers;

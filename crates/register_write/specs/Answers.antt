@@ -6,18 +6,18 @@ use Rattle.register_write.specs.declared.WriteAnswer.{WriteAnswer}
 use Rattle.register_write.specs.declared.WriteAnswer.TheVariants.{Taken, WrongLength, NoRegister, NotWritable, BadValue, RingRefused}
 
 -- register write: 0 taken, 20 lent length, 30 no such register, 31 read-only, 32 bad value, 33 ring refused
-abbrev pub writeNumber : WriteAnswer → ℕ
-writeNumber Taken = 0
-writeNumber WrongLength = 20
-writeNumber NoRegister = 30
-writeNumber NotWritable = 31
-writeNumber BadValue = 32
-writeNumber RingRefused = 33
+abbrev pub write_number : WriteAnswer → ℕ
+write_number Taken = 0
+write_number WrongLength = 20
+write_number NoRegister = 30
+write_number NotWritable = 31
+write_number BadValue = 32
+write_number RingRefused = 33
 
 -- A register write answers a number and leaves a device.
 pub record WriteOutcome : Type 0 where
   pub answer : ℕ
   pub device : Device
 
-abbrev pub writeOutcome : Written → WriteOutcome
-writeOutcome w = record { answer = writeNumber w.answer; device = w.device }
+abbrev pub write_outcome : Written → WriteOutcome
+write_outcome w = record { answer = write_number w.answer; device = w.device }

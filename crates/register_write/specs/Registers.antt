@@ -8,13 +8,13 @@ use Rattle.register.specs.declared.Register.{Register}
 use Rattle.register.specs.declared.Register.TheVariants.{Writes, Reads, Absent}
 use Rattle.register.specs.declared.Writable.{Writable}
 use Rattle.register.specs.declared.Writable.TheVariants.{Id, Enable, Width, Height, ConfigDone, Sync, GuestId, CursorId, CursorX, CursorY, CursorOn}
-use Rattle.register.specs.Numbers.{registerOf}
+use Rattle.register.specs.Numbers.{register_of}
 use Rattle.device.specs.declared.Registers.{Registers}
 use Rattle.device.specs.declared.Plane.{Plane}
 use Rattle.device.specs.declared.Condition.{Condition}
 use Rattle.device.specs.declared.Condition.TheVariants.{Idle, Running, Faulted}
 use Rattle.device.specs.declared.Device.{Device}
-use Rattle.device.specs.Device.{memoryOf, width_of, heightOf, maxWidth, maxHeight, wellFormed, withRegisters, withPlane, withBusy, withCondition}
+use Rattle.device.specs.Device.{memory_of, width_of, height_of, max_width, max_height, well_formed, with_registers, with_plane, with_busy, with_condition}
 use Rattle.register_write.specs.Answers.{WriteOutcome}
 
 abbrev pub taken : Device → WriteOutcome
@@ -25,8 +25,8 @@ abbrev pub refused : ℕ → Device → WriteOutcome
 refused answer d = record { answer = answer; device = d }
 
 -- The registers with the mode, with id, ENABLE and CONFIG_DONE, or with the others changed.
-abbrev pub setMode : Registers → ℕ → ℕ → Registers
-setMode g width height = record {
+abbrev pub set_mode : Registers → ℕ → ℕ → Registers
+set_mode g width height = record {
   id = g.id;
   enable = g.enable;
   width = width;
@@ -39,8 +39,8 @@ setMode g width height = record {
   cursoron = g.cursoron;
 }
 
-abbrev pub setState : Registers → ℕ → Bool → Bool → Registers
-setState g id enable config = record {
+abbrev pub set_state : Registers → ℕ → Bool → Bool → Registers
+set_state g id enable config = record {
   id = id;
   enable = enable;
   width = g.width;
@@ -53,8 +53,8 @@ setState g id enable config = record {
   cursoron = g.cursoron;
 }
 
-abbrev pub setOthers : Registers → ℕ → ℕ → ℕ → ℕ → ℕ → Registers
-setOthers g guest cursorid cursorx cursory cursoron = record {
+abbrev pub set_others : Registers → ℕ → ℕ → ℕ → ℕ → ℕ → Registers
+set_others g guest cursorid cursorx cursory cursoron = record {
   id = g.id;
   enable = g.enable;
   width = g.width;
@@ -74,8 +74,8 @@ setOthers g guest cursorid cursorx cursory cursoron = record {
 unfoldable pub in_range : Writable → ℕ → Bool
 in_range Id v = true
 in_range Enable v = leb v 1
-in_range Width v = leb 1 v && leb v maxWidth
-in_range Height v = leb 1 v && leb v maxHeight
+in_range Width v = leb 1 v && leb v max_width
+in_range Height v = leb 1 v && leb v max_height
 in_range ConfigDone v = leb v 1
 in_range Sync v = true
 in_range GuestId v = true
@@ -87,25 +87,25 @@ in_range CursorOn v = leb v 3
 -- ---- the effects: what a value in its range does
 
 -- "0 ID (0x90000000, ..01, ..02 are stored; any other value is taken and changes nothing, so negotiation works"
-abbrev pub isId : ℕ → Bool
-isId v = leb 0x90000000 v && leb v 0x90000002
+abbrev pub is_id : ℕ → Bool
+is_id v = leb 0x90000000 v && leb v 0x90000002
 
-unfoldable pub idWritten : Device → ℕ → Device
-idWritten d v =
-    withRegisters d (setState d.registers (cond (isId v) v d.registers.id) d.registers.enable d.registers.config)
+unfoldable pub id_written : Device → ℕ → Device
+id_written d v =
+    with_registers d (set_state d.registers (cond (is_id v) v d.registers.id) d.registers.enable d.registers.config)
 
 -- "1 ENABLE (0 or 1)". "Writing 0 to ENABLE or CONFIG_DONE clears BUSY."
-unfoldable pub enableWritten : Device → ℕ → Device
-enableWritten d v =
-    withBusy (withRegisters d (setState d.registers d.registers.id (not (eqb v 0)) d.registers.config))
+unfoldable pub enable_written : Device → ℕ → Device
+enable_written d v =
+    with_busy (with_registers d (set_state d.registers d.registers.id (not (eqb v 0)) d.registers.config))
     (cond (eqb v 0) false d.busy)
 
 -- "2 WIDTH (1 to 2,560), 3 HEIGHT (1 to 1,600)": the mode is width by height.
-abbrev pub widthWritten : Device → ℕ → Device
-widthWritten d v = withRegisters d (setMode d.registers v (heightOf d))
+abbrev pub width_written : Device → ℕ → Device
+width_written d v = with_registers d (set_mode d.registers v (height_of d))
 
-abbrev pub heightWritten : Device → ℕ → Device
-heightWritten d v = withRegisters d (setMode d.registers (width_of d) v)
+abbrev pub height_written : Device → ℕ → Device
+height_written d v = with_registers d (set_mode d.registers (width_of d) v)
 
 -- A fault "stands until CONFIG_DONE 1 is accepted": CONFIG_DONE 0 forgets a ring and leaves a fault.
 abbrev pub idled : Condition → Condition
@@ -114,11 +114,11 @@ idled (Running g) = Idle
 idled (Faulted c) = Faulted c
 
 abbrev pub configured : Device → Bool → Device
-configured d config = withRegisters d (setState d.registers d.registers.id d.registers.enable config)
+configured d config = with_registers d (set_state d.registers d.registers.id d.registers.enable config)
 
 -- CONFIG_DONE 0
 abbrev pub unconfigured : Device → Device
-unconfigured d = withBusy (withCondition (configured d false) (idled d.condition)) false
+unconfigured d = with_busy (with_condition (configured d false) (idled d.condition)) false
 
 -- configured and without fault
 abbrev pub running : Condition → Bool
@@ -128,95 +128,95 @@ running (Faulted c) = false
 
 -- "SYNC sets BUSY to 1 if the device is configured, enabled and without fault; otherwise nothing."
 unfoldable pub synced : Device → Device
-synced d = withBusy d (cond (running d.condition && d.registers.enable) true d.busy)
+synced d = with_busy d (cond (running d.condition && d.registers.enable) true d.busy)
 
 -- "23 GUEST_ID, 24 CURSOR_ID, 25 CURSOR_X, 26 CURSOR_Y": stored.
-abbrev pub guestIdWritten : Device → ℕ → Device
-guestIdWritten d v =
-    withRegisters d
-    (setOthers d.registers v d.registers.cursorid d.registers.cursorx d.registers.cursory d.registers.cursoron)
+abbrev pub guest_id_written : Device → ℕ → Device
+guest_id_written d v =
+    with_registers d
+    (set_others d.registers v d.registers.cursorid d.registers.cursorx d.registers.cursory d.registers.cursoron)
 
-abbrev pub cursorIdWritten : Device → ℕ → Device
-cursorIdWritten d v =
-    withRegisters d
-    (setOthers d.registers d.registers.guest v d.registers.cursorx d.registers.cursory d.registers.cursoron)
+abbrev pub cursor_id_written : Device → ℕ → Device
+cursor_id_written d v =
+    with_registers d
+    (set_others d.registers d.registers.guest v d.registers.cursorx d.registers.cursory d.registers.cursoron)
 
-abbrev pub cursorXWritten : Device → ℕ → Device
-cursorXWritten d v =
-    withRegisters d
-    (setOthers d.registers d.registers.guest d.registers.cursorid v d.registers.cursory d.registers.cursoron)
+abbrev pub cursor_xWritten : Device → ℕ → Device
+cursor_xWritten d v =
+    with_registers d
+    (set_others d.registers d.registers.guest d.registers.cursorid v d.registers.cursory d.registers.cursoron)
 
-abbrev pub cursorYWritten : Device → ℕ → Device
-cursorYWritten d v =
-    withRegisters d
-    (setOthers d.registers d.registers.guest d.registers.cursorid d.registers.cursorx v d.registers.cursoron)
+abbrev pub cursor_yWritten : Device → ℕ → Device
+cursor_yWritten d v =
+    with_registers d
+    (set_others d.registers d.registers.guest d.registers.cursorid d.registers.cursorx v d.registers.cursoron)
 
 -- "CURSOR_ON 1 remembers id, X and Y and shows; 0 hides; 2 and 3 leave the plane as it is"
-unfoldable pub planeOn : Device → ℕ → Plane
-planeOn d v =
+unfoldable pub plane_on : Device → ℕ → Plane
+plane_on d v =
     cond (eqb v 0) (record { shown = false; id = d.plane.id; x = d.plane.x; y = d.plane.y })
     (cond (eqb v 1) (record { shown = true; id = d.registers.cursorid; x = d.registers.cursorx; y = d.registers.cursory }) d.plane)
 
-abbrev pub cursorOnWritten : Device → ℕ → Device
-cursorOnWritten d v =
-    withPlane
-    (withRegisters d
-    (setOthers d.registers d.registers.guest d.registers.cursorid d.registers.cursorx d.registers.cursory v))
-    (planeOn d v)
+abbrev pub cursor_on_written : Device → ℕ → Device
+cursor_on_written d v =
+    with_plane
+    (with_registers d
+    (set_others d.registers d.registers.guest d.registers.cursorid d.registers.cursorx d.registers.cursory v))
+    (plane_on d v)
 
 -- each register's own effect; of CONFIG_DONE that of 0
 unfoldable pub effect_of : Device → ℕ → Writable → Device
-effect_of d v Id = idWritten d v
-effect_of d v Enable = enableWritten d v
-effect_of d v Width = widthWritten d v
-effect_of d v Height = heightWritten d v
+effect_of d v Id = id_written d v
+effect_of d v Enable = enable_written d v
+effect_of d v Width = width_written d v
+effect_of d v Height = height_written d v
 effect_of d v ConfigDone = unconfigured d
 effect_of d v Sync = synced d
-effect_of d v GuestId = guestIdWritten d v
-effect_of d v CursorId = cursorIdWritten d v
-effect_of d v CursorX = cursorXWritten d v
-effect_of d v CursorY = cursorYWritten d v
-effect_of d v CursorOn = cursorOnWritten d v
+effect_of d v GuestId = guest_id_written d v
+effect_of d v CursorId = cursor_id_written d v
+effect_of d v CursorX = cursor_xWritten d v
+effect_of d v CursorY = cursor_yWritten d v
+effect_of d v CursorOn = cursor_on_written d v
 
 -- ---- CONFIG_DONE 1, the one write that asks for the ring
 
-unfoldable pub ringAsked : Writable → ℕ → Bool
-ringAsked Id v = false
-ringAsked Enable v = false
-ringAsked Width v = false
-ringAsked Height v = false
-ringAsked ConfigDone v = eqb v 1
-ringAsked Sync v = false
-ringAsked GuestId v = false
-ringAsked CursorId v = false
-ringAsked CursorX v = false
-ringAsked CursorY v = false
-ringAsked CursorOn v = false
+unfoldable pub ring_asked : Writable → ℕ → Bool
+ring_asked Id v = false
+ring_asked Enable v = false
+ring_asked Width v = false
+ring_asked Height v = false
+ring_asked ConfigDone v = eqb v 1
+ring_asked Sync v = false
+ring_asked GuestId v = false
+ring_asked CursorId v = false
+ring_asked CursorX v = false
+ring_asked CursorY v = false
+ring_asked CursorOn v = false
 
 -- "Accepted: MIN, MAX and STOP are remembered, a standing fault is cleared."
 abbrev pub remembering : Device → Ring → Device
-remembering d g = withCondition (configured d true) (Running g)
+remembering d g = with_condition (configured d true) (Running g)
 
 -- "else 33"
-unfoldable pub acceptedWritten : Device → Acceptance → WriteOutcome
-acceptedWritten d (Accepted g) = taken (remembering d g)
-acceptedWritten d Refused = refused 33 d
+unfoldable pub accepted_written : Device → Acceptance → WriteOutcome
+accepted_written d (Accepted g) = taken (remembering d g)
+accepted_written d Refused = refused 33 d
 
 -- "CONFIG_DONE 1: first 32, then 20, then 33."
-unfoldable pub ringWritten : Device → List ℕ → WriteOutcome
-ringWritten d ring = cond (eqb (length ring) (memoryOf d / 4)) (acceptedWritten d (accepted ring)) (refused 20 d)
+unfoldable pub ring_written : Device → List ℕ → WriteOutcome
+ring_written d ring = cond (eqb (length ring) (memory_of d / 4)) (accepted_written d (accepted ring)) (refused 20 d)
 
 -- ---- the rule
 
 -- a value in its range is taken with its effect, CONFIG_DONE 1 if its ring is accepted; "A value outside these is 32"
-unfoldable pub writableWritten : Device → List ℕ → ℕ → Writable → WriteOutcome
-writableWritten d ring v w = cond (in_range w v) (cond (ringAsked w v) (ringWritten d ring) (taken (effect_of d v w))) (refused 32 d)
+unfoldable pub writable_written : Device → List ℕ → ℕ → Writable → WriteOutcome
+writable_written d ring v w = cond (in_range w v) (cond (ring_asked w v) (ring_written d ring) (taken (effect_of d v w))) (refused 32 d)
 
 -- "A register write checks 30, 31, 32."
 unfoldable pub written_by : Device → List ℕ → ℕ → Register → WriteOutcome
-written_by d ring v (Writes w) = writableWritten d ring v w
+written_by d ring v (Writes w) = writable_written d ring v w
 written_by d ring v (Reads r) = refused 31 d
 written_by d ring v Absent = refused 30 d
 
 unfoldable pub written : Device → List ℕ → ℕ → ℕ → WriteOutcome
-written d ring index v = cond (wellFormed d) (written_by d ring v (registerOf index)) (refused 30 d)
+written d ring index v = cond (well_formed d) (written_by d ring v (register_of index)) (refused 30 d)

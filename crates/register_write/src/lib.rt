@@ -1,9 +1,9 @@
 // What a register write does.
 ghost use Rattle.std.specs.Prelude.{◌≡◌, ◌&&◌, leb};
-ghost use Rattle.register_write.specs.Answers.{writeNumber, writeOutcome};
-ghost use Rattle.register_write.specs.Registers.{in_range, idWritten, enableWritten, widthWritten, heightWritten, idled, unconfigured, running, synced};
-ghost use Rattle.register_write.specs.Registers.{guestIdWritten, cursorIdWritten, cursorXWritten, cursorYWritten, planeOn, cursorOnWritten};
-ghost use Rattle.register_write.specs.Registers.{effect_of, ringAsked, acceptedWritten, ringWritten, writableWritten, written};
+ghost use Rattle.register_write.specs.Answers.{write_number, write_outcome};
+ghost use Rattle.register_write.specs.Registers.{in_range, id_written, enable_written, width_written, height_written, idled, unconfigured, running, synced};
+ghost use Rattle.register_write.specs.Registers.{guest_id_written, cursor_id_written, cursor_xWritten, cursor_yWritten, plane_on, cursor_on_written};
+ghost use Rattle.register_write.specs.Registers.{effect_of, ring_asked, accepted_written, ring_written, writable_written, written};
 
 use device::{Condition, Device, MAX_HEIGHT, MAX_WIDTH, Plane, Registers, is_well_formed};
 use register::{Register, Writable};
@@ -29,7 +29,7 @@ pub struct Written {
 
 // Rules out: 31 for a register that is absent; 33 for a lent length.
 pub fn write_number(answer: WriteAnswer) -> u32
-    ensures { result ≡ writeNumber answer }
+    ensures { result ≡ write_number answer }
 {
     match answer {
         WriteAnswer::Taken => 0,
@@ -74,7 +74,7 @@ fn in_range(w: Writable, value: u32) -> bool
 // ---- the effects: what a value in its range does
 
 fn write_id(d: Device, value: u32) -> Device
-    ensures { result ≡ idWritten d value }
+    ensures { result ≡ id_written d value }
 {
     if value < 0x90000000 {
         return d;
@@ -90,7 +90,7 @@ fn write_id(d: Device, value: u32) -> Device
 }
 
 fn write_enable(d: Device, value: u32) -> Device
-    ensures { result ≡ enableWritten d value }
+    ensures { result ≡ enable_written d value }
 {
     let g = d.registers;
     if value == 0 {
@@ -107,7 +107,7 @@ fn write_enable(d: Device, value: u32) -> Device
 }
 
 fn write_width(d: Device, value: u32) -> Device
-    ensures { result ≡ widthWritten d value }
+    ensures { result ≡ width_written d value }
 {
     let g = d.registers;
     Device {
@@ -117,7 +117,7 @@ fn write_width(d: Device, value: u32) -> Device
 }
 
 fn write_height(d: Device, value: u32) -> Device
-    ensures { result ≡ heightWritten d value }
+    ensures { result ≡ height_written d value }
 {
     let g = d.registers;
     Device {
@@ -183,7 +183,7 @@ fn sync(d: Device) -> Device
 }
 
 fn write_guest_id(d: Device, value: u32) -> Device
-    ensures { result ≡ guestIdWritten d value }
+    ensures { result ≡ guest_id_written d value }
 {
     let g = d.registers;
     Device {
@@ -193,7 +193,7 @@ fn write_guest_id(d: Device, value: u32) -> Device
 }
 
 fn write_cursor_id(d: Device, value: u32) -> Device
-    ensures { result ≡ cursorIdWritten d value }
+    ensures { result ≡ cursor_id_written d value }
 {
     let g = d.registers;
     Device {
@@ -206,7 +206,7 @@ fn write_cursor_id(d: Device, value: u32) -> Device
 }
 
 fn write_cursor_x(d: Device, value: u32) -> Device
-    ensures { result ≡ cursorXWritten d value }
+    ensures { result ≡ cursor_xWritten d value }
 {
     let g = d.registers;
     Device {
@@ -219,7 +219,7 @@ fn write_cursor_x(d: Device, value: u32) -> Device
 }
 
 fn write_cursor_y(d: Device, value: u32) -> Device
-    ensures { result ≡ cursorYWritten d value }
+    ensures { result ≡ cursor_yWritten d value }
 {
     let g = d.registers;
     Device {
@@ -233,7 +233,7 @@ fn write_cursor_y(d: Device, value: u32) -> Device
 
 // What CURSOR_ON makes of the cursor plane.
 fn plane_on(d: Device, value: u32) -> Plane
-    ensures { result ≡ planeOn d value }
+    ensures { result ≡ plane_on d value }
 {
     let g = d.registers;
     let plane = d.plane;
@@ -255,7 +255,7 @@ fn plane_on(d: Device, value: u32) -> Plane
 }
 
 fn write_cursor_on(d: Device, value: u32) -> Device
-    ensures { result ≡ cursorOnWritten d value }
+    ensures { result ≡ cursor_on_written d value }
 {
     let g = d.registers;
     let plane = plane_on(d, value);
@@ -290,7 +290,7 @@ fn effect(d: Device, value: u32, w: Writable) -> Device
 // ---- CONFIG_DONE 1, the one write that asks for the ring
 
 fn ring_asked(w: Writable, value: u32) -> bool
-    ensures { result ≡ ringAsked w value }
+    ensures { result ≡ ring_asked w value }
 {
     match w {
         Writable::Id => false,
@@ -309,7 +309,7 @@ fn ring_asked(w: Writable, value: u32) -> bool
 
 // Ring words that are accepted or refused.
 fn configure(d: Device, acceptance: Acceptance) -> Written
-    ensures { writeOutcome result ≡ acceptedWritten d acceptance }
+    ensures { write_outcome result ≡ accepted_written d acceptance }
 {
     let g = d.registers;
     match acceptance {
@@ -333,7 +333,7 @@ fn configure(d: Device, acceptance: Acceptance) -> Written
 }
 
 fn write_ring(d: Device, ring: &[u32]) -> Written
-    ensures { writeOutcome result ≡ ringWritten d ring.now }
+    ensures { write_outcome result ≡ ring_written d ring.now }
 {
     let sizes = d.sizes;
     let words = (sizes.memory / 4) as usize;
@@ -349,7 +349,7 @@ fn write_ring(d: Device, ring: &[u32]) -> Written
 // ---- writing a register
 
 fn write_writable(d: Device, ring: &[u32], w: Writable, value: u32) -> Written
-    ensures { writeOutcome result ≡ writableWritten d ring.now value w }
+    ensures { write_outcome result ≡ writable_written d ring.now value w }
 {
     let good = in_range(w, value);
     if !good {
@@ -371,7 +371,7 @@ fn write_writable(d: Device, ring: &[u32], w: Writable, value: u32) -> Written
 // A register write. The ring is looked at by CONFIG_DONE 1 only.
 // Rules out: a refused write that changes the device; 32 for a read-only register; a refused ring that clears a fault.
 pub fn write(d: Device, ring: &[u32], index: u32, value: u32) -> Written
-    ensures { writeOutcome result ≡ written d ring.now index value }
+    ensures { write_outcome result ≡ written d ring.now index value }
 {
     let good = is_well_formed(d);
     if !good {

@@ -19,18 +19,18 @@ pub record InRing (lo hi p n : ℕ) : Type 0 where
   pub held : n + lo ≤ hi
 
 -- the places of the ring
-pub after-in : (lo hi p : ℕ) → lo ≤ p → p < hi → (lo ≤ after lo hi p) × (after lo hi p < hi)
+pub after_in : (lo hi p : ℕ) → lo ≤ p → p < hi → (lo ≤ after lo hi p) × (after lo hi p < hi)
 unfolding after
-after-in lo hi p a b = cases (ltb (suc p) hi) (λ e. rw e (let u : suc p < hi = ltb-true _ _ e in omega arith)) (λ e. rw e (omega arith))
+after_in lo hi p a b = cases (ltb (suc p) hi) (λ e. rw e (let u : suc p < hi = ltb-true _ _ e in omega arith)) (λ e. rw e (omega arith))
 
 pub ahead_in : (lo hi p k : ℕ) → InRing lo hi p k → (lo ≤ ahead lo hi p k) × (ahead lo hi p k < hi)
 unfolding ahead
 ahead_in lo hi p k h =
     cases (ltb (p + k) hi) (λ e. rw e (let u : p + k < hi = ltb-true _ _ e in omega arith)) (λ e. rw e (let u : hi ≤ p + k = ltb-false _ _ e in omega arith))
 
-pub ahead-zero : (lo hi p : ℕ) → p < hi → ahead lo hi p 0 ≡ p
+pub ahead_zero : (lo hi p : ℕ) → p < hi → ahead lo hi p 0 ≡ p
 unfolding ahead
-ahead-zero lo hi p b = rw (lt-ltb (p + 0) hi (omega arith)) (omega arith)
+ahead_zero lo hi p b = rw (lt-ltb (p + 0) hi (omega arith)) (omega arith)
 
 pub ahead_after : (lo hi p k : ℕ) → InRing lo hi p (suc k) → ahead lo hi (after lo hi p) k ≡ ahead lo hi p (suc k)
 unfolding after ahead
@@ -40,9 +40,9 @@ ahead_after lo hi p k h =
     (λ e. let u : hi ≤ suc p = ltb-false _ _ e in rw (e, lt-ltb (lo + k) hi (omega arith), le-ltb (p + suc k) hi (omega arith)) (omega arith))
 
 -- k words on, and n more
-pub ahead-ahead : (lo hi p k n : ℕ) → lo ≤ p → p < hi → k + n + lo ≤ hi → ahead lo hi (ahead lo hi p k) n ≡ ahead lo hi p (k + n)
+pub ahead_ahead : (lo hi p k n : ℕ) → lo ≤ p → p < hi → k + n + lo ≤ hi → ahead lo hi (ahead lo hi p k) n ≡ ahead lo hi p (k + n)
 unfolding ahead
-ahead-ahead lo hi p k n from below held =
+ahead_ahead lo hi p k n from below held =
     cases (ltb (p + k) hi)
     (λ t. let u : p + k < hi = ltb-true _ _ t in cases (ltb (p + k + n) hi)
     (λ e. let f : p + k + n < hi = ltb-true _ _ e in rw (t, e, lt-ltb (p + (k + n)) hi (omega arith)) (omega arith))
@@ -50,8 +50,8 @@ ahead-ahead lo hi p k n from below held =
     (λ t. let u : hi ≤ p + k = ltb-false _ _ t in rw (t, lt-ltb (p + k - (hi - lo) + n) hi (omega arith), le-ltb (p + (k + n)) hi (omega arith)) (omega arith))
 
 -- one place on, with one word fewer
-pub next-in : (lo hi p n : ℕ) → InRing lo hi p (suc n) → InRing lo hi (after lo hi p) n
-next-in lo hi p n h = let q = after-in lo hi p h.from h.below in record { from = q.0; below = q.1; held = omega arith }
+pub next_in : (lo hi p n : ℕ) → InRing lo hi p (suc n) → InRing lo hi (after lo hi p) n
+next_in lo hi p n h = let q = after_in lo hi p h.from h.below in record { from = q.0; below = q.1; held = omega arith }
 
 pub length-words : (ring : List ℕ) (lo hi p n : ℕ) → length (words ring lo hi p n) ≡ n
 unfolding words
@@ -62,15 +62,15 @@ length-words ring lo hi p (suc n) = ap suc (length-words ring lo hi (after lo hi
 pub get_d_words : (ring : List ℕ) (lo hi p n i : ℕ) → InRing lo hi p n → i < n → get_or (words ring lo hi p n) i 0 ≡ get_or ring (ahead lo hi p i) 0
 unfolding words
 get_d_words ring lo hi p zero i h l = let z : ⊥ = omega arith in absurd z
-get_d_words ring lo hi p (suc n) zero h l = rw (ahead-zero lo hi p h.below)
+get_d_words ring lo hi p (suc n) zero h l = rw (ahead_zero lo hi p h.below)
 get_d_words ring lo hi p (suc n) (suc i) h l =
-    get_d_words ring lo hi (after lo hi p) n i (next-in lo hi p n h) (omega arith)
+    get_d_words ring lo hi (after lo hi p) n i (next_in lo hi p n h) (omega arith)
     ∙ ap (λ k. get_or ring k 0) (ahead_after lo hi p i (record { from = h.from; below = h.below; held = omega arith }))
 
 -- where the ring does not end before it, word i is at the place i further on
-pub getD-straight : (ring : List ℕ) (lo hi p n i : ℕ) → InRing lo hi p n → i < n → p + i < hi → get_or (words ring lo hi p n) i 0 ≡ get_or ring (p + i) 0
+pub get_or_straight : (ring : List ℕ) (lo hi p n i : ℕ) → InRing lo hi p n → i < n → p + i < hi → get_or (words ring lo hi p n) i 0 ≡ get_or ring (p + i) 0
 unfolding ahead
-getD-straight ring lo hi p n i h l d = get_d_words ring lo hi p n i h l ∙ rw (lt-ltb (p + i) hi d)
+get_or_straight ring lo hi p n i h l d = get_d_words ring lo hi p n i h l ∙ rw (lt-ltb (p + i) hi d)
 
 pub take_words : (ring : List ℕ) (lo hi p n k : ℕ) → k ≤ n → take k (words ring lo hi p n) ≡ words ring lo hi p k
 unfolding words
@@ -81,25 +81,25 @@ take_words ring lo hi p (suc n) (suc k) l = ap (λ t. get_or ring p 0 ∷ t) (ta
 -- the words after the first k are those from the place k words on
 pub drop-words : (ring : List ℕ) (lo hi p n k : ℕ) → InRing lo hi p n → k ≤ n → drop k (words ring lo hi p n) ≡ words ring lo hi (ahead lo hi p k) (n - k)
 unfolding words
-drop-words ring lo hi p n zero h l = let e : n ≡ n - 0 = omega arith in ap₂ (λ q m. words ring lo hi q m) (sym (ahead-zero lo hi p h.below)) e
+drop-words ring lo hi p n zero h l = let e : n ≡ n - 0 = omega arith in ap₂ (λ q m. words ring lo hi q m) (sym (ahead_zero lo hi p h.below)) e
 drop-words ring lo hi p zero (suc k) h l = let z : ⊥ = omega arith in absurd z
 drop-words ring lo hi p (suc n) (suc k) h l =
-    drop-words ring lo hi (after lo hi p) n k (next-in lo hi p n h) (omega arith)
+    drop-words ring lo hi (after lo hi p) n k (next_in lo hi p n h) (omega arith)
     ∙ (let e : n - k ≡ suc n - suc k = omega arith in
     ap₂ (λ q m. words ring lo hi q m) (ahead_after lo hi p k (record { from = h.from; below = h.below; held = omega arith })) e)
 
 -- a store below the ring changes none of them
-pub words-outside : (ring : List ℕ) (lo hi p n q x : ℕ) → lo ≤ p → p < hi → q < lo → words (set ring q x) lo hi p n ≡ words ring lo hi p n
+pub words_outside : (ring : List ℕ) (lo hi p n q x : ℕ) → lo ≤ p → p < hi → q < lo → words (set ring q x) lo hi p n ≡ words ring lo hi p n
 unfolding words
-words-outside ring lo hi p zero q x a b c = refl
-words-outside ring lo hi p (suc n) q x a b c =
-    let h = after-in lo hi p a b in
-    ap₂ ◌∷◌ (get_or-set_other ring q p x 0 (λ e. let u : p ≡ q = e in omega arith)) (words-outside ring lo hi (after lo hi p) n q x h.0 h.1 c)
+words_outside ring lo hi p zero q x a b c = refl
+words_outside ring lo hi p (suc n) q x a b c =
+    let h = after_in lo hi p a b in
+    ap₂ ◌∷◌ (get_or-set_other ring q p x 0 (λ e. let u : p ≡ q = e in omega arith)) (words_outside ring lo hi (after lo hi p) n q x h.0 h.1 c)
 
 -- fewer words on than the ring holds is another place
-ahead-other : (lo hi p k : ℕ) → InRing lo hi p (suc (suc k)) → ahead lo hi p (suc k) ≡ p → ⊥
+ahead_other : (lo hi p k : ℕ) → InRing lo hi p (suc (suc k)) → ahead lo hi p (suc k) ≡ p → ⊥
 unfolding ahead
-ahead-other lo hi p k h =
+ahead_other lo hi p k h =
     cases (ltb (p + suc k) hi)
     (λ e. rw e (λ f. let u : p + suc k ≡ p = f in omega arith))
     (λ e. rw e (let v : hi ≤ p + suc k = ltb-false _ _ e in λ f. let u : p + suc k - (hi - lo) ≡ p = f in omega arith))
@@ -107,16 +107,16 @@ ahead-other lo hi p k h =
 -- a store at the place after the n words is one word more
 pub words_snoc : (ring : List ℕ) (lo hi p n x : ℕ) → InRing lo hi p (suc n) → hi ≤ length ring → words (set ring (ahead lo hi p n) x) lo hi p (suc n) ≡ words ring lo hi p n ++ (x ∷ [])
 unfolding words
-words_snoc ring lo hi p zero x h f = ap (λ y. y ∷ []) (rw (ahead-zero lo hi p h.below) (get_or-set_same ring p x 0 (omega arith)))
+words_snoc ring lo hi p zero x h f = ap (λ y. y ∷ []) (rw (ahead_zero lo hi p h.below) (get_or-set_same ring p x 0 (omega arith)))
 words_snoc ring lo hi p (suc n) x h f =
-    ap₂ ◌∷◌ (get_or-set_other ring (ahead lo hi p (suc n)) p x 0 (λ e. ahead-other lo hi p n h (sym e)))
+    ap₂ ◌∷◌ (get_or-set_other ring (ahead lo hi p (suc n)) p x 0 (λ e. ahead_other lo hi p n h (sym e)))
     (ap (λ k. words (set ring k x) lo hi (after lo hi p) (suc n)) (sym (ahead_after lo hi p n (record { from = h.from; below = h.below; held = omega arith })))
-    ∙ words_snoc ring lo hi (after lo hi p) n x (next-in lo hi p (suc n) h) f)
+    ∙ words_snoc ring lo hi (after lo hi p) n x (next_in lo hi p (suc n) h) f)
 
 -- k words on from a place are k words from it
-pub between-on : (lo hi p k : ℕ) → lo ≤ p → p < hi → k + lo < hi → between lo hi p (ahead lo hi p k) ≡ k
+pub between_on : (lo hi p k : ℕ) → lo ≤ p → p < hi → k + lo < hi → between lo hi p (ahead lo hi p k) ≡ k
 unfolding between ahead
-between-on lo hi p k a b h =
+between_on lo hi p k a b h =
     cases (ltb (p + k) hi)
     (λ t. rw (t, le-leb p (p + k) (omega arith)) (omega arith))
     (λ f. let v : hi ≤ p + k = ltb-false _ _ f in rw (f, lt-leb p (p + k - (hi - lo)) (omega arith)) (omega arith))
@@ -124,16 +124,16 @@ between-on lo hi p k a b h =
 -- the number of words from one place up to another
 module _ (lo hi p q : ℕ) (a : lo ≤ p) (b : p < hi) (c : lo ≤ q) (d : q < hi) where
   -- never more than the ring carries
-  pub between-carried : between lo hi p q ≤ carried lo hi
+  pub between_carried : between lo hi p q ≤ carried lo hi
   unfolding between
-  between-carried = cases (leb p q) (λ e. rw e (let u : p ≤ q = leb-true _ _ e in omega arith)) (λ e. rw e (let u : q < p = leb-false _ _ e in omega arith))
+  between_carried = cases (leb p q) (λ e. rw e (let u : p ≤ q = leb-true _ _ e in omega arith)) (λ e. rw e (let u : q < p = leb-false _ _ e in omega arith))
 
   pub between_in : InRing lo hi p (suc (between lo hi p q))
-  between_in = let u = between-carried in record { from = a; below = b; held = omega arith }
+  between_in = let u = between_carried in record { from = a; below = b; held = omega arith }
 
-  pub between-ahead : (k : ℕ) → k ≤ between lo hi p q → between lo hi (ahead lo hi p k) q ≡ between lo hi p q - k
+  pub between_ahead : (k : ℕ) → k ≤ between lo hi p q → between lo hi (ahead lo hi p k) q ≡ between lo hi p q - k
   unfolding between ahead
-  between-ahead k =
+  between_ahead k =
       cases (leb p q)
       (λ e. let u : p ≤ q = leb-true _ _ e in rw e (λ h. rw (lt-ltb (p + k) hi (omega arith), le-leb (p + k) q (omega arith)) (omega arith)))
       (λ e. let u : q < p = leb-false _ _ e in rw e (λ h.
@@ -141,17 +141,17 @@ module _ (lo hi p q : ℕ) (a : lo ≤ p) (b : p < hi) (c : lo ≤ q) (d : q < h
       (λ f. let v : p + k < hi = ltb-true _ _ f in rw (f, lt-leb (p + k) q (omega arith)) (omega arith))
       (λ f. let v : hi ≤ p + k = ltb-false _ _ f in rw (f, le-leb (p + k - (hi - lo)) q (omega arith)) (omega arith))))
 
-  pub ahead-between : ahead lo hi p (between lo hi p q) ≡ q
+  pub ahead_between : ahead lo hi p (between lo hi p q) ≡ q
   unfolding between ahead
-  ahead-between =
+  ahead_between =
       cases (leb p q)
       (λ e. let u : p ≤ q = leb-true _ _ e in rw (e, lt-ltb (p + (q - p)) hi (omega arith)) (omega arith))
       (λ e. let u : q < p = leb-false _ _ e in rw (e, le-ltb (p + (q + (hi - lo) - p)) hi (omega arith)) (omega arith))
 
   -- one place on is one word more, unless it comes round to p
-  pub between-after : (after lo hi q ≡ p → ⊥) → between lo hi p (after lo hi q) ≡ suc (between lo hi p q)
+  pub between_after : (after lo hi q ≡ p → ⊥) → between lo hi p (after lo hi q) ≡ suc (between lo hi p q)
   unfolding between after
-  between-after =
+  between_after =
       cases (ltb (suc q) hi)
       (λ e. let u : suc q < hi = ltb-true _ _ e in rw e (λ h.
       cases (leb p q)
@@ -161,9 +161,9 @@ module _ (lo hi p q : ℕ) (a : lo ≤ p) (b : p < hi) (c : lo ≤ q) (d : q < h
       rw (lt-leb p lo (let w : lo ≢ p = h in omega arith)) (omega arith)))
 
   -- and it comes round to p exactly at as many words as the ring carries
-  pub between-full : (after lo hi q ≡ p) ↔ (between lo hi p q ≡ carried lo hi)
+  pub between_full : (after lo hi q ≡ p) ↔ (between lo hi p q ≡ carried lo hi)
   unfolding between after
-  between-full = (full, round)
+  between_full = (full, round)
     where
       full : after lo hi q ≡ p → between lo hi p q ≡ carried lo hi
       full =
@@ -182,23 +182,23 @@ pub length-waiting : (ring : List ℕ) (lo hi stop next : ℕ) → length (waiti
 unfolding waiting
 length-waiting ring lo hi stop next = length-words ring lo hi stop (between lo hi stop next)
 
-pub waiting-outside : (ring : List ℕ) (lo hi stop next q x : ℕ) → lo ≤ stop → stop < hi → q < lo → waiting (set ring q x) lo hi stop next ≡ waiting ring lo hi stop next
+pub waiting_outside : (ring : List ℕ) (lo hi stop next q x : ℕ) → lo ≤ stop → stop < hi → q < lo → waiting (set ring q x) lo hi stop next ≡ waiting ring lo hi stop next
 unfolding waiting
-waiting-outside ring lo hi stop next q x a b c = words-outside ring lo hi stop (between lo hi stop next) q x a b c
+waiting_outside ring lo hi stop next q x a b c = words_outside ring lo hi stop (between lo hi stop next) q x a b c
 
 -- what waits once STOP has passed k of the words
 pub words_left : (ring : List ℕ) (lo hi stop next k : ℕ) → lo ≤ stop → stop < hi → lo ≤ next → next < hi → k ≤ between lo hi stop next
     → waiting ring lo hi (ahead lo hi stop k) next ≡ drop k (waiting ring lo hi stop next)
 unfolding waiting
 words_left ring lo hi stop next k a b c d l =
-    let u = between-carried lo hi stop next a b c d in
-    ap (λ n. words ring lo hi (ahead lo hi stop k) n) (between-ahead lo hi stop next a b c d k l)
+    let u = between_carried lo hi stop next a b c d in
+    ap (λ n. words ring lo hi (ahead lo hi stop k) n) (between_ahead lo hi stop next a b c d k l)
     ∙ sym (drop-words ring lo hi stop (between lo hi stop next) k (record { from = a; below = b; held = omega arith }) l)
 
 -- the same where ring word 3 has been written
-pub words-left-written : (ring : List ℕ) (lo hi stop next k x : ℕ) → 4 ≤ lo → lo ≤ stop → stop < hi → lo ≤ next → next < hi → k ≤ between lo hi stop next
+pub words_left_written : (ring : List ℕ) (lo hi stop next k x : ℕ) → 4 ≤ lo → lo ≤ stop → stop < hi → lo ≤ next → next < hi → k ≤ between lo hi stop next
     → waiting (set ring 3 x) lo hi (ahead lo hi stop k) next ≡ drop k (waiting ring lo hi stop next)
-words-left-written ring lo hi stop next k x f a b c d l =
-    let u = between-carried lo hi stop next a b c d in
+words_left_written ring lo hi stop next k x f a b c d l =
+    let u = between_carried lo hi stop next a b c d in
     let i = ahead_in lo hi stop k (record { from = a; below = b; held = omega arith }) in
-    waiting-outside ring lo hi (ahead lo hi stop k) next 3 x i.0 i.1 (omega arith) ∙ words_left ring lo hi stop next k a b c d l
+    waiting_outside ring lo hi (ahead lo hi stop k) next 3 x i.0 i.1 (omega arith) ∙ words_left ring lo hi stop next k a b c d l

@@ -2,7 +2,7 @@
 -- the ring is from lo to below hi.
 use Rattle.std.specs.Prelude.{Bool, cond, ◌&&◌, List, [], ◌∷◌, ℕ, zero, suc, ◌+◌, ◌-◌, ◌/◌, ◌%◌, get_or, eqb, ltb, leb}
 use Rattle.ring.specs.declared.Ring.{Ring}
-use Rattle.ring.specs.Acceptance.{leastWords}
+use Rattle.ring.specs.Acceptance.{least_words}
 
 -- "Words wrap from MAX to MIN": the place after p
 unfoldable pub after : ℕ → ℕ → ℕ → ℕ
@@ -33,8 +33,8 @@ carried lo hi = hi - lo - 1
 -- from MIN to below MAX", all in words.
 unfoldable pub placed : Ring → ℕ → Bool
 placed g words =
-    leb 4 g.min && (leb g.max words && (leb (g.min + leastWords) g.max && (leb g.min g.stop && ltb g.stop g.max)))
+    leb 4 g.min && (leb g.max words && (leb (g.min + least_words) g.max && (leb g.min g.stop && ltb g.stop g.max)))
 
 -- "NEXT_CMD not a multiple of 4 or outside the ring: 13."
-unfoldable pub nextGood : Ring → ℕ → Bool
-nextGood g next = eqb (next % 4) 0 && (leb g.min (next / 4) && ltb (next / 4) g.max)
+unfoldable pub next_good : Ring → ℕ → Bool
+next_good g next = eqb (next % 4) 0 && (leb g.min (next / 4) && ltb (next / 4) g.max)

@@ -1,8 +1,8 @@
 // The command ring's words 0 to 3, MIN, MAX, NEXT_CMD and STOP: when they are accepted, what is then remembered, and the guest's append.
 ghost use Rattle.std.specs.Prelude.{◌≡◌, ◌+◌, ◌≤◌};
-ghost use Rattle.ring.specs.Acceptance.{offsetUsable, boundsUsable, usable, accepted};
-ghost use Rattle.ring.specs.Waiting.{placed, nextGood};
-ghost use Rattle.ring.specs.Append.{movedOn, appendNumber, appended, appendOf};
+ghost use Rattle.ring.specs.Acceptance.{offset_usable, bounds_usable, usable, accepted};
+ghost use Rattle.ring.specs.Waiting.{placed, next_good};
+ghost use Rattle.ring.specs.Append.{moved_on, append_number, appended, append_of};
 
 // The largest ring memory, in words.
 pub const MAX_WORDS: u32 = 524288;
@@ -34,7 +34,7 @@ pub enum AppendAnswer {
 
 // Rules out: 0 for a refused append; 1 for a taken one.
 pub fn append_number(answer: AppendAnswer) -> u32
-    ensures { result ≡ appendNumber answer }
+    ensures { result ≡ append_number answer }
 {
     match answer {
         AppendAnswer::Taken => 0,
@@ -43,7 +43,7 @@ pub fn append_number(answer: AppendAnswer) -> u32
 }
 
 fn offset_usable(min: u32, max: u32, offset: u32) -> bool
-    ensures { result ≡ offsetUsable min max offset }
+    ensures { result ≡ offset_usable min max offset }
 {
     if offset % 4 != 0 {
         return false;
@@ -55,7 +55,7 @@ fn offset_usable(min: u32, max: u32, offset: u32) -> bool
 }
 
 fn bounds_usable(words: usize, min: u32, max: u32) -> bool
-    ensures { result ≡ boundsUsable words min max }
+    ensures { result ≡ bounds_usable words min max }
 {
     if min % 4 != 0 {
         return false;
@@ -132,7 +132,7 @@ pub fn is_placed(g: Ring, words: usize) -> bool
 // Whether a run can go by NEXT_CMD: a multiple of 4 inside the remembered ring.
 // Rules out: a NEXT_CMD equal to MAX; one that is no multiple of 4.
 pub fn next_good(g: Ring, next: u32) -> bool
-    ensures { result ≡ nextGood g next }
+    ensures { result ≡ next_good g next }
 {
     if next % 4 != 0 {
         return false;
@@ -145,7 +145,7 @@ pub fn next_good(g: Ring, next: u32) -> bool
 
 fn moved_on(min: u32, max: u32, offset: u32) -> u32
     requires { offset + 4 ≤ max }
-    ensures { result ≡ movedOn min max offset }
+    ensures { result ≡ moved_on min max offset }
 {
     let moved = offset + 4;
     if moved == max {
@@ -157,7 +157,7 @@ fn moved_on(min: u32, max: u32, offset: u32) -> u32
 // The guest's append: its word at NEXT_CMD, and NEXT_CMD moved on; refused where the ring is full or its words are not usable.
 // Rules out: a full ring that takes one word more; NEXT_CMD moved on to MAX instead of MIN; a word stored by an append that is refused.
 pub fn append(ring: &mut [u32], word: u32) -> AppendAnswer
-    ensures { appended result ring.new ≡ appendOf ring.old word }
+    ensures { appended result ring.new ≡ append_of ring.old word }
 {
     let good = is_usable(ring);
     if !good {

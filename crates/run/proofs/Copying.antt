@@ -11,7 +11,7 @@ use lib.Seq.{take_all, drop-append-le, drop_at, take_at, paste, paste-suc, take-
 use lib.Seq.{length-take-le, ext_get_or, drop-drop}
 use borrow.Author.Tests.{lt-ltb, le-ltb}
 use Rattle.ring.specs.Waiting.{ahead, words}
-use Rattle.ring.proofs.WaitingLaws.{length-words, getD-straight, take_words, drop-words}
+use Rattle.ring.proofs.WaitingLaws.{length-words, get_or_straight, take_words, drop-words}
 use Rattle.run.specs.declared.View.{View}
 use Rattle.run.specs.Turns.{InView, words_in, row_in}
 
@@ -29,7 +29,7 @@ module _ (ring : List ℕ) (lo hi : ℕ) (there : hi ≤ length ring) where
   straight p m from below held room =
       ext_get_or 0 _ _ (length-words ring lo hi p m ∙ sym (length-take-le m (drop p ring) (rw length-drop (omega arith))))
       (λ i h. let few : i < m = rw length-words at h in
-      getD-straight ring lo hi p m i (record { from = from; below = below; held = held }) few (omega arith)
+      get_or_straight ring lo hi p m i (record { from = from; below = below; held = held }) few (omega arith)
       ∙ sym (get_or-take m (drop p ring) i 0 few ∙ get_or-drop p ring i 0))
 
   module _ (p n : ℕ) (from : lo ≤ p) (below : p < hi) (held : n + lo ≤ hi) (d : List ℕ) (to : ℕ) (fits : to + n ≤ length d) where
@@ -37,14 +37,14 @@ module _ (ring : List ℕ) (lo hi : ℕ) (there : hi ≤ length ring) where
     all_words = take_all n (words ring lo hi p n) (rw length-words (omega arith))
 
     -- all of them before the ring's end
-    pub copied-straight : p + n ≤ hi → paste d to (drop p ring) n ≡ paste d to (words ring lo hi p n) n
-    copied-straight room = ap (λ (w : List ℕ). take to d ++ w ++ drop (to + n) d) (sym (straight p n from below held room) ∙ sym all_words)
+    pub copied_straight : p + n ≤ hi → paste d to (drop p ring) n ≡ paste d to (words ring lo hi p n) n
+    copied_straight room = ap (λ (w : List ℕ). take to d ++ w ++ drop (to + n) d) (sym (straight p n from below held room) ∙ sym all_words)
 
     -- some of them, and the rest from the ring's begin on
-    pub copied-wrapped : (f : ℕ) → f ≡ hi - p → f ≤ n
+    pub copied_wrapped : (f : ℕ) → f ≡ hi - p → f ≤ n
         → paste (paste d to (drop p ring) f) (to + f) (drop lo ring) (n - f) ≡ paste d to (words ring lo hi p n) n
     unfolding ahead
-    copied-wrapped f is some =
+    copied_wrapped f is some =
         let s = words ring lo hi p n in
         let room : p + f ≤ hi = omega arith in
         let few : f + lo ≤ hi = omega arith in
@@ -63,19 +63,19 @@ module _ (ring : List ℕ) (lo hi : ℕ) (there : hi ≤ length ring) where
         ap₂ (λ (x : List ℕ) (y : List ℕ). x ++ y) (ap₂ (λ (x : List ℕ) (y : List ℕ). x ++ y) front tail ∙ append_assoc (take to d) (take f s) (drop f s) ∙ ap (λ (w : List ℕ). take to d ++ w) (take-append-drop f s ∙ sym all_words)) last
 
 -- the pixels behind a cursor's head are the words from place p on
-pub pixels-from : (ring : List ℕ) (v : View) (count p : ℕ) → InView v (length ring) → 6 + count ≤ v.n → p ≡ ahead v.lo v.hi v.at 6
+pub pixels_from : (ring : List ℕ) (v : View) (count p : ℕ) → InView v (length ring) → 6 + count ≤ v.n → p ≡ ahead v.lo v.hi v.at 6
     → words ring v.lo v.hi p count ≡ take count (drop 6 (words_in ring v))
-pixels-from ring v count p inside some is =
+pixels_from ring v count p inside some is =
     rw is
     (sym (ap (take count) (drop-words ring v.lo v.hi v.at v.n 6 (record { from = inside.from; below = inside.below; held = omega arith }) (omega arith))
     ∙ take_words ring v.lo v.hi (ahead v.lo v.hi v.at 6) (v.n - 6) count (omega arith)))
 
 -- copied to the front of an image
-pub pixels-pasted : (ring : List ℕ) (v : View) (count p : ℕ) (d : List ℕ) → InView v (length ring) → 6 + count ≤ v.n → p ≡ ahead v.lo v.hi v.at 6
+pub pixels_pasted : (ring : List ℕ) (v : View) (count p : ℕ) (d : List ℕ) → InView v (length ring) → 6 + count ≤ v.n → p ≡ ahead v.lo v.hi v.at 6
     → paste d 0 (words ring v.lo v.hi p count) count ≡ take count (drop 6 (words_in ring v)) ++ drop count d
-pixels-pasted ring v count p d inside some is =
+pixels_pasted ring v count p d inside some is =
     ap₂ (λ (x : List ℕ) (y : List ℕ). x ++ y)
-    (take_all count (words ring v.lo v.hi p count) (rw length-words (omega arith)) ∙ pixels-from ring v count p inside some is)
+    (take_all count (words ring v.lo v.hi p count) (rw length-words (omega arith)) ∙ pixels_from ring v count p inside some is)
     (ap (λ k. drop k d) (zero-add count))
 
 -- copied into a line, they lie there in a row
@@ -95,8 +95,8 @@ line_row ring v n e d long few some is =
     ∙ sym (take_words ring v.lo v.hi v.at v.n n some))
 
 -- and the word before them is still there
-pub line-front : (d : List ℕ) (x n : ℕ) (s : List ℕ) → length d ≡ 17 → get_or (paste (set d 6 x) 7 s n) 6 0 ≡ x
-line-front d x n s long =
+pub line_front : (d : List ℕ) (x n : ℕ) (s : List ℕ) → length d ≡ 17 → get_or (paste (set d 6 x) 7 s n) 6 0 ≡ x
+line_front d x n s long =
     let b = set d 6 x in
     let size : length b ≡ 17 = length-set d 6 x ∙ long in
     let front : length (take 7 b) ≡ 7 = length-take-le 7 b (omega arith) in
@@ -105,10 +105,10 @@ line-front d x n s long =
     ∙ get_or-take 7 b 6 0 (omega arith)
     ∙ get_or-set_same d 6 x 0 (omega arith)
 
-pub six-on : (lo hi at : ℕ) → at + 6 < hi → at + 6 ≡ ahead lo hi at 6
+pub six_on : (lo hi at : ℕ) → at + 6 < hi → at + 6 ≡ ahead lo hi at 6
 unfolding ahead
-six-on lo hi at h = rw (lt-ltb (at + 6) hi h)
+six_on lo hi at h = rw (lt-ltb (at + 6) hi h)
 
-pub six-round : (lo hi at : ℕ) → hi ≤ at + 6 → at + 6 - (hi - lo) ≡ ahead lo hi at 6
+pub six_round : (lo hi at : ℕ) → hi ≤ at + 6 → at + 6 - (hi - lo) ≡ ahead lo hi at 6
 unfolding ahead
-six-round lo hi at h = rw (le-ltb (at + 6) hi h)
+six_round lo hi at h = rw (le-ltb (at + 6) hi h)

@@ -9,29 +9,29 @@ use Rattle.execution.specs.Straight.{exec}
 use Rattle.execution.specs.Table.{turn_of}
 use Rattle.command.specs.declared.Action.TheVariants.{Fill, Copy}
 use Rattle.command.specs.Commands.{entry, kind_of}
-use Rattle.command.proofs.Rules.{well, by-rule}
-use Rattle.effect.specs.Effects.{Scene, Machine, cursorAfter, done}
+use Rattle.command.proofs.Rules.{well, by_rule}
+use Rattle.effect.specs.Effects.{Scene, Machine, cursor_after, done}
 use Rattle.run.specs.Run.{known_of, table}
 
 module _ (s : Scene) (m : Machine) (cap : ℕ) (carries : 10 ≤ cap) where
   -- both execute, and leave what a fill by operation 3 leaves
-  pub fills-agree : (colour x y w h : ℕ) (u v : List ℕ)
+  pub fills_agree : (colour x y w h : ℕ) (u v : List ℕ)
       → (turn_of cap (table s) m (2 ∷ colour ∷ x ∷ y ∷ w ∷ h ∷ u) ≡ exec 6 (done s (Fill (record { x = x; y = y; w = w; h = h }) colour 3) [] m))
       × (turn_of cap (table s) m (13 ∷ colour ∷ x ∷ y ∷ w ∷ h ∷ 3 ∷ v) ≡ exec 7 (done s (Fill (record { x = x; y = y; w = w; h = h }) colour 3) [] m))
-  unfolding entry kind_of done cursorAfter
-  fills-agree colour x y w h u v = (
-    by-rule known_of (done s) cap m (2 ∷ colour ∷ x ∷ y ∷ w ∷ h ∷ u) (omega arith) _ (well refl (omega arith) refl (omega arith) (omega arith) refl),
-    by-rule known_of (done s) cap m (13 ∷ colour ∷ x ∷ y ∷ w ∷ h ∷ 3 ∷ v) (omega arith) _ (well refl (omega arith) refl (omega arith) (omega arith) refl),
+  unfolding entry kind_of done cursor_after
+  fills_agree colour x y w h u v = (
+    by_rule known_of (done s) cap m (2 ∷ colour ∷ x ∷ y ∷ w ∷ h ∷ u) (omega arith) _ (well refl (omega arith) refl (omega arith) (omega arith) refl),
+    by_rule known_of (done s) cap m (13 ∷ colour ∷ x ∷ y ∷ w ∷ h ∷ 3 ∷ v) (omega arith) _ (well refl (omega arith) refl (omega arith) (omega arith) refl),
   )
 
   -- and what a copy by operation 3 leaves
-  pub copies-agree : (sx sy x y w h : ℕ) (u v : List ℕ)
+  pub copies_agree : (sx sy x y w h : ℕ) (u v : List ℕ)
       → (turn_of cap (table s) m (3 ∷ sx ∷ sy ∷ x ∷ y ∷ w ∷ h ∷ u)
       ≡ exec 7 (done s (Copy (record { x = sx; y = sy }) (record { x = x; y = y; w = w; h = h }) 3) [] m))
       × (turn_of cap (table s) m (14 ∷ sx ∷ sy ∷ x ∷ y ∷ w ∷ h ∷ 3 ∷ v)
       ≡ exec 8 (done s (Copy (record { x = sx; y = sy }) (record { x = x; y = y; w = w; h = h }) 3) [] m))
-  unfolding entry kind_of done cursorAfter
-  copies-agree sx sy x y w h u v = (
-    by-rule known_of (done s) cap m (3 ∷ sx ∷ sy ∷ x ∷ y ∷ w ∷ h ∷ u) (omega arith) _ (well refl (omega arith) refl (omega arith) (omega arith) refl),
-    by-rule known_of (done s) cap m (14 ∷ sx ∷ sy ∷ x ∷ y ∷ w ∷ h ∷ 3 ∷ v) (omega arith) _ (well refl (omega arith) refl (omega arith) (omega arith) refl),
+  unfolding entry kind_of done cursor_after
+  copies_agree sx sy x y w h u v = (
+    by_rule known_of (done s) cap m (3 ∷ sx ∷ sy ∷ x ∷ y ∷ w ∷ h ∷ u) (omega arith) _ (well refl (omega arith) refl (omega arith) (omega arith) refl),
+    by_rule known_of (done s) cap m (14 ∷ sx ∷ sy ∷ x ∷ y ∷ w ∷ h ∷ 3 ∷ v) (omega arith) _ (well refl (omega arith) refl (omega arith) (omega arith) refl),
   )

@@ -17,7 +17,7 @@ use Rattle.execution.specs.declared.Cause.TheVariants.{BadOperand}
 use Rattle.execution.specs.Straight.{Line, exec}
 use Rattle.execution.specs.Table.{turn_of}
 use Rattle.execution.specs.Turns.{LineRun, runs}
-use Rattle.execution.proofs.QueueLaws.{runs-exec}
+use Rattle.execution.proofs.QueueLaws.{runs_exec}
 use Rattle.cursor.specs.declared.Defined.{Defined}
 use Rattle.command.specs.declared.Action.{Action}
 use Rattle.command.specs.declared.Action.TheVariants as A
@@ -25,17 +25,17 @@ use Rattle.command.specs.declared.Data.{Data}
 use Rattle.command.specs.declared.Step.{Step}
 use Rattle.command.specs.declared.Step.TheVariants.{Does}
 use Rattle.command.specs.declared.Step.TheVariants as Step
-use Rattle.command.specs.Commands.{entry, kindIn}
-use Rattle.command.specs.Findings.{data_of, stepIn, onMachine}
-use Rattle.command.proofs.Rules.{turn-found}
-use Rattle.command.proofs.Steps.{KeepsCursor, step-short, step-bad, step-does, whole, does-turn}
-use Rattle.effect.specs.Effects.{Scene, Machine, screenAfter, fenceAfter, postedAfter, definedAfter, cursorAfter, done}
+use Rattle.command.specs.Commands.{entry, kind_in}
+use Rattle.command.specs.Findings.{data_of, step_in, on_machine}
+use Rattle.command.proofs.Rules.{turn_found}
+use Rattle.command.proofs.Steps.{KeepsCursor, step_short, step_bad, step_does, whole, does_turn}
+use Rattle.effect.specs.Effects.{Scene, Machine, screen_after, fence_after, posted_after, defined_after, cursor_after, done}
 use Rattle.run.specs.declared.Pause.TheVariants.{Spent, Short, Faults, Long}
-use Rattle.run.specs.Run.{known_of, machine, table, stamped, posting, postedIn}
+use Rattle.run.specs.Run.{known_of, machine, table, stamped, posting, posted_in}
 use Rattle.run.specs.Turns.{row_in, Clear}
-use Rattle.run.specs.Going.{plus, line, marked, pauseOf, Pauses, RowGoing}
-use Rattle.run.proofs.Counts.{plus-zero, plus_one}
-use Rattle.run.proofs.Posting.{posted-after-none, length-written, written_row, posted-written, written-further}
+use Rattle.run.specs.Going.{plus, line, marked, pause_of, Pauses, RowGoing}
+use Rattle.run.proofs.Counts.{plus_zero, plus_one}
+use Rattle.run.proofs.Posting.{posted_after_none, length-written, written_row, posted_written, written_further}
 
 -- ---- rows
 
@@ -50,51 +50,51 @@ row_drop l a n e h =
     let k : e - a ≡ n + (e - (a + n)) = omega arith in
     rw k (drop-take n (e - (a + n)) (drop a l) ∙ ap (take (e - (a + n))) (drop-drop n a l))
 
-pub row-length : (l : List ℕ) (a e : ℕ) → e ≤ length l → length (row_in l a e) ≡ e - a
-row-length l a e h = length-take-le (e - a) (drop a l) (rw length-drop (omega arith))
+pub row_length : (l : List ℕ) (a e : ℕ) → e ≤ length l → length (row_in l a e) ≡ e - a
+row_length l a e h = length-take-le (e - a) (drop a l) (rw length-drop (omega arith))
 
 -- ---- actions that leave the cursor alone
 
-keeps-cursor : (a : Action) (w cursor : List ℕ) → KeepsCursor a → cursorAfter a w cursor ≡ cursor
-unfolding cursorAfter
-keeps-cursor (A.Update r) w cursor k = refl
-keeps-cursor (A.Fill r colour rop) w cursor k = refl
-keeps-cursor (A.Copy from r rop) w cursor k = refl
-keeps-cursor (A.Define s) w cursor k = absurd k
-keeps-cursor (A.Fence number) w cursor k = refl
-keeps-cursor A.Nothing w cursor k = refl
+keeps_cursor : (a : Action) (w cursor : List ℕ) → KeepsCursor a → cursor_after a w cursor ≡ cursor
+unfolding cursor_after
+keeps_cursor (A.Update r) w cursor k = refl
+keeps_cursor (A.Fill r colour rop) w cursor k = refl
+keeps_cursor (A.Copy from r rop) w cursor k = refl
+keeps_cursor (A.Define s) w cursor k = absurd k
+keeps_cursor (A.Fence number) w cursor k = refl
+keeps_cursor A.Nothing w cursor k = refl
 
-keeps-defined : (a : Action) (defined : Defined) → KeepsCursor a → definedAfter a defined ≡ defined
-unfolding definedAfter
-keeps-defined (A.Update r) defined k = refl
-keeps-defined (A.Fill r colour rop) defined k = refl
-keeps-defined (A.Copy from r rop) defined k = refl
-keeps-defined (A.Define s) defined k = absurd k
-keeps-defined (A.Fence number) defined k = refl
-keeps-defined A.Nothing defined k = refl
+keeps_defined : (a : Action) (defined : Defined) → KeepsCursor a → defined_after a defined ≡ defined
+unfolding defined_after
+keeps_defined (A.Update r) defined k = refl
+keeps_defined (A.Fill r colour rop) defined k = refl
+keeps_defined (A.Copy from r rop) defined k = refl
+keeps_defined (A.Define s) defined k = absurd k
+keeps_defined (A.Fence number) defined k = refl
+keeps_defined A.Nothing defined k = refl
 
-done-kept : (s : Scene) (a : Action) (w : List ℕ) (fence : ℕ) (defined : Defined) (screen cursor : List ℕ) (posted : ℕ) → KeepsCursor a
+done_kept : (s : Scene) (a : Action) (w : List ℕ) (fence : ℕ) (defined : Defined) (screen cursor : List ℕ) (posted : ℕ) → KeepsCursor a
     → done s a w (machine (marked fence defined) screen cursor posted)
-    ≡ machine (marked (fenceAfter a fence) defined) (screenAfter s a screen) cursor (postedAfter s.posts a posted)
+    ≡ machine (marked (fence_after a fence) defined) (screen_after s a screen) cursor (posted_after s.posts a posted)
 unfolding done
-done-kept s a w fence defined screen cursor posted k = λ i. record {
-  screen = screenAfter s a screen;
-  cursor = keeps-cursor a w cursor k i;
-  marks = record { fence = fenceAfter a fence; defined = keeps-defined a defined k i };
-  posted = postedAfter s.posts a posted;
+done_kept s a w fence defined screen cursor posted k = λ i. record {
+  screen = screen_after s a screen;
+  cursor = keeps_cursor a w cursor k i;
+  marks = record { fence = fence_after a fence; defined = keeps_defined a defined k i };
+  posted = posted_after s.posts a posted;
 }
 
 -- ---- the loop
 
 module _ (s : Scene) (budget : ℕ) (memory₀ : List ℕ) (a e : ℕ) (fence₀ : ℕ) (screen₀ : List ℕ) where
-  pub row-start : a ≤ e → RowGoing s budget memory₀ a e fence₀ screen₀ a fence₀ budget memory₀ screen₀
-  row-start h = record {
+  pub row_start : a ≤ e → RowGoing s budget memory₀ a e fence₀ screen₀ a fence₀ budget memory₀ screen₀
+  row_start h = record {
     bounded = omega arith;
     from = omega arith;
     within = h;
     still = λ q. (refl, refl, refl);
     stamp = rw (eq-eqb budget budget refl);
-    rest = λ cap tail defined cursor p q. let z : budget - budget ≡ 0 = omega arith in rw z (plus-zero _);
+    rest = λ cap tail defined cursor p q. let z : budget - budget ≡ 0 = omega arith in rw z (plus_zero _);
   }
 
 module _ {s : Scene} {budget : ℕ} {memory₀ : List ℕ} {a e : ℕ} {fence₀ : ℕ} {screen₀ : List ℕ} (low : 4 ≤ a) (there : e ≤ length memory₀)
@@ -106,61 +106,61 @@ module _ {s : Scene} {budget : ℕ} {memory₀ : List ℕ} {a e : ℕ} {fence₀
       let behind : Clear s.posts at = λ t. omega (arith, clear t) in
       cases (eqb left budget) (λ t. rw (g.stamp, t)) (λ t. rw (g.stamp, t) (written_row s.posts at _ memory₀ at e (omega arith) behind))
 
-  pub row-same-length : length memory ≡ length memory₀
-  row-same-length = cases (eqb left budget) (λ t. rw (g.stamp, t)) (λ t. rw (g.stamp, t) (length-written s.posts at _ memory₀))
+  pub row_same_length : length memory ≡ length memory₀
+  row_same_length = cases (eqb left budget) (λ t. rw (g.stamp, t)) (λ t. rw (g.stamp, t) (length-written s.posts at _ memory₀))
 
   -- a FENCE can be posted there
-  pub row-clear : Clear s.posts (length memory)
-  row-clear t = let l = row-same-length in omega (arith, clear t, g.from, g.within)
+  pub row_clear : Clear s.posts (length memory)
+  row_clear t = let l = row_same_length in omega (arith, clear t, g.from, g.within)
 
-  module _ (act : Action) (n : ℕ) (does : stepIn tt (row_in memory at e) ≡ Does act n) where
-    found : stepIn tt (row_in memory₀ at e) ≡ Does act n
+  module _ (act : Action) (n : ℕ) (does : step_in tt (row_in memory at e) ≡ Does act n) where
+    found : step_in tt (row_in memory₀ at e) ≡ Does act n
     found = rw (sym same_row) does
 
     pub row_fits : (1 ≤ n) × (at + n ≤ e)
     row_fits =
         let w = whole tt (row_in memory₀ at e) act n found in
-        let l = row-length memory₀ at e there in
+        let l = row_length memory₀ at e there in
         (w.one, omega (arith, w.fits, w.one, g.within))
 
     -- what it posts
-    abbrev posts-now : ℕ
-    posts-now = postedAfter s.posts act (postedIn s.posts memory)
+    abbrev posts_now : ℕ
+    posts_now = posted_after s.posts act (posted_in s.posts memory)
 
     turns : (cap : ℕ) (tail : List ℕ) (defined : Defined) (cursor : List ℕ) → 10 ≤ cap → e - a ≤ cap
-        → turn_of cap (table s) (machine (marked fence defined) screen cursor (postedIn s.posts memory)) (row_in memory₀ at e ++ tail)
-        ≡ exec n (machine (marked (fenceAfter act fence) defined) (screenAfter s act screen) cursor posts-now)
+        → turn_of cap (table s) (machine (marked fence defined) screen cursor (posted_in s.posts memory)) (row_in memory₀ at e ++ tail)
+        ≡ exec n (machine (marked (fence_after act fence) defined) (screen_after s act screen) cursor posts_now)
     turns cap tail defined cursor h k =
-        let m = machine (marked fence defined) screen cursor (postedIn s.posts memory) in
+        let m = machine (marked fence defined) screen cursor (posted_in s.posts memory) in
         let row = row_in memory₀ at e in
-        turn-found known_of (done s) cap m (row ++ tail)
-        ∙ ap (onMachine (done s) m (row ++ tail)) (does-turn tt row act n found cap h (rw (row-length memory₀ at e there) (omega (arith, g.from))) tail)
-        ∙ ap (exec n) (done-kept s act (take n (row ++ tail)) fence defined screen cursor _ (whole tt row act n found).keeps)
+        turn_found known_of (done s) cap m (row ++ tail)
+        ∙ ap (on_machine (done s) m (row ++ tail)) (does_turn tt row act n found cap h (rw (row_length memory₀ at e there) (omega (arith, g.from))) tail)
+        ∙ ap (exec n) (done_kept s act (take n (row ++ tail)) fence defined screen cursor _ (whole tt row act n found).keeps)
 
-    module _ (some_left : 0 < left) (later : List ℕ) (wrote : later ≡ stamped (at + n) (posting s.posts posts-now memory))
-        (painted : List ℕ) (drawn : painted ≡ screenAfter s act screen) (number : ℕ) (fenced : number ≡ fenceAfter act fence) where
-      posted-now : postedIn s.posts later ≡ posts-now
-      posted-now = ap (postedIn s.posts) wrote ∙ posted-written s.posts (at + n) posts-now memory row-clear (posted-after-none s.posts act memory)
+    module _ (some_left : 0 < left) (later : List ℕ) (wrote : later ≡ stamped (at + n) (posting s.posts posts_now memory))
+        (painted : List ℕ) (drawn : painted ≡ screen_after s act screen) (number : ℕ) (fenced : number ≡ fence_after act fence) where
+      posted_now : posted_in s.posts later ≡ posts_now
+      posted_now = ap (posted_in s.posts) wrote ∙ posted_written s.posts (at + n) posts_now memory row_clear (posted_after_none s.posts act memory)
 
       one : (cap : ℕ) (tail : List ℕ) (defined : Defined) (cursor : List ℕ) → 10 ≤ cap → e - a ≤ cap
-          → runs (turn_of cap (table s)) budget (line (row_in memory₀ a e ++ tail) (machine (marked fence₀ defined) screen₀ cursor (postedIn s.posts memory₀)))
+          → runs (turn_of cap (table s)) budget (line (row_in memory₀ a e ++ tail) (machine (marked fence₀ defined) screen₀ cursor (posted_in s.posts memory₀)))
           ≡ plus (budget - (left - 1)) (runs (turn_of cap (table s)) (left - 1)
-          (line (row_in memory₀ (at + n) e ++ tail) (machine (marked number defined) painted cursor (postedIn s.posts later))))
+          (line (row_in memory₀ (at + n) e ++ tail) (machine (marked number defined) painted cursor (posted_in s.posts later))))
       one cap tail defined cursor x y =
           let b = g.bounded in
           let k : left ≡ suc (left - 1) = omega arith in
           let t = turn_of cap (table s) in
-          let l = line (row_in memory₀ at e ++ tail) (machine (marked fence defined) screen cursor (postedIn s.posts memory)) in
-          let m = machine (marked (fenceAfter act fence) defined) (screenAfter s act screen) cursor posts-now in
+          let l = line (row_in memory₀ at e ++ tail) (machine (marked fence defined) screen cursor (posted_in s.posts memory)) in
+          let m = machine (marked (fence_after act fence) defined) (screen_after s act screen) cursor posts_now in
           let more : budget - (left - 1) ≡ suc (budget - left) = omega arith in
           let words : drop n (row_in memory₀ at e ++ tail) ≡ row_in memory₀ (at + n) e ++ tail =
-          drop-append-le n (row_in memory₀ at e) tail (rw (row-length memory₀ at e there) (omega (arith, row_fits.1)))
+          drop-append-le n (row_in memory₀ at e) tail (rw (row_length memory₀ at e there) (omega (arith, row_fits.1)))
           ∙ ap (λ (w : List ℕ). w ++ tail) (row_drop memory₀ at n e row_fits.1) in
           g.rest cap tail defined cursor x y
           ∙ ap (λ j. plus (budget - left) (runs t j l)) k
-          ∙ ap (plus (budget - left)) (runs-exec t (left - 1) l n _ (turns cap tail defined cursor x y))
+          ∙ ap (plus (budget - left)) (runs_exec t (left - 1) l n _ (turns cap tail defined cursor x y))
           ∙ plus_one (budget - left) (budget - (left - 1)) _ more
-          ∙ rw (posted-now, drawn, fenced) (ap (λ (w : List ℕ). plus (budget - (left - 1)) (runs t (left - 1) (line w m))) words)
+          ∙ rw (posted_now, drawn, fenced) (ap (λ (w : List ℕ). plus (budget - (left - 1)) (runs t (left - 1) (line w m))) words)
 
       pub row_more : RowGoing s budget memory₀ a e fence₀ screen₀ (at + n) number (left - 1) later painted
       row_more =
@@ -172,8 +172,8 @@ module _ {s : Scene} {budget : ℕ} {memory₀ : List ℕ} {a e : ℕ} {fence₀
             from = omega arith;
             within = fits.1;
             still = λ z. absurd (omega arith);
-            stamp = rw posted-now
-                (written-further s.posts budget left (left - 1) at (at + n) _ posts-now memory₀ memory later b (omega arith) (λ z. absurd (omega arith))
+            stamp = rw posted_now
+                (written_further s.posts budget left (left - 1) at (at + n) _ posts_now memory₀ memory later b (omega arith) (λ z. absurd (omega arith))
                 g.stamp (wrote ∙ rw (ne_eqb (left - 1) left (omega arith))));
             rest = λ cap tail defined cursor x y. one cap tail defined cursor x y;
           }
@@ -181,8 +181,8 @@ module _ {s : Scene} {budget : ℕ} {memory₀ : List ℕ} {a e : ℕ} {fence₀
 -- ---- why it paused
 
 module _ (left : ℕ) (row : List ℕ) where
-  pub pauses-spent : left ≡ 0 → Pauses Spent left row
-  pauses-spent z = record {
+  pub pauses_spent : left ≡ 0 → Pauses Spent left row
+  pauses_spent z = record {
     spent = λ e. z;
     short = λ e. absurd (true≢false cc);
     faults = λ c e. absurd (true≢false cc);
@@ -190,21 +190,21 @@ module _ (left : ℕ) (row : List ℕ) where
   }
 
   -- at a step that is not executed
-  pub pauses-at : (step : Step) → (pauseOf step ≡ Spent → ⊥) → 1 ≤ left → stepIn tt row ≡ step → Pauses (pauseOf step) left row
-  pauses-at (Step.Does a n) other h q = absurd (other refl)
-  pauses-at Step.Short other h q = record {
+  pub pauses_at : (step : Step) → (pause_of step ≡ Spent → ⊥) → 1 ≤ left → step_in tt row ≡ step → Pauses (pause_of step) left row
+  pauses_at (Step.Does a n) other h q = absurd (other refl)
+  pauses_at Step.Short other h q = record {
     spent = λ e. absurd (true≢false cc);
     short = λ e. (h, q);
     faults = λ c e. absurd (true≢false cc);
     long = λ d e. absurd (true≢false cc);
   }
-  pauses-at (Step.Faults f) other h q = record {
+  pauses_at (Step.Faults f) other h q = record {
     spent = λ e. absurd (true≢false cc);
     short = λ e. absurd (true≢false cc);
     faults = λ c e. let same : f ≡ c = cc in (h, q ∙ ap Step.Faults same);
     long = λ d e. absurd (true≢false cc);
   }
-  pauses-at (Step.Long f) other h q = record {
+  pauses_at (Step.Long f) other h q = record {
     spent = λ e. absurd (true≢false cc);
     short = λ e. absurd (true≢false cc);
     faults = λ c e. absurd (true≢false cc);
@@ -212,15 +212,15 @@ module _ (left : ℕ) (row : List ℕ) where
   }
 
 -- words of a command of fixed length that are not executed
-module _ (row : List ℕ) (other : pauseOf (stepIn tt row) ≡ Spent → ⊥) (plain : data_of (kindIn row) ≡ none)
-    (offered : (entry (kindIn row)).offered ≡ true) where
-  not_done : (entry (kindIn row)).head ≤ length row → (entry (kindIn row)).good tt row ≡ true → ⊥
-  not_done all good = other (ap pauseOf (step-does tt row (kindIn row) refl plain offered (entry (kindIn row)).head refl all good))
+module _ (row : List ℕ) (other : pause_of (step_in tt row) ≡ Spent → ⊥) (plain : data_of (kind_in row) ≡ none)
+    (offered : (entry (kind_in row)).offered ≡ true) where
+  not_done : (entry (kind_in row)).head ≤ length row → (entry (kind_in row)).good tt row ≡ true → ⊥
+  not_done all good = other (ap pause_of (step_does tt row (kind_in row) refl plain offered (entry (kind_in row)).head refl all good))
 
   -- they are too few, or an operand is bad
-  pub pauses-fixed : pauseOf (stepIn tt row) ≡ cond (ltb (length row) (entry (kindIn row)).head) Short (Faults BadOperand)
-  pauses-fixed =
-      cases (ltb (length row) (entry (kindIn row)).head)
-      (λ t. rw t (ap pauseOf (step-short tt row (kindIn row) refl plain offered (ltb-true _ _ t))))
-      (λ f. rw f (cases ((entry (kindIn row)).good tt row) (λ t. absurd (not_done (ltb-false _ _ f) t))
-      (λ g. ap pauseOf (step-bad tt row (kindIn row) refl plain offered (entry (kindIn row)).head refl (ltb-false _ _ f) g))))
+  pub pauses_fixed : pause_of (step_in tt row) ≡ cond (ltb (length row) (entry (kind_in row)).head) Short (Faults BadOperand)
+  pauses_fixed =
+      cases (ltb (length row) (entry (kind_in row)).head)
+      (λ t. rw t (ap pause_of (step_short tt row (kind_in row) refl plain offered (ltb-true _ _ t))))
+      (λ f. rw f (cases ((entry (kind_in row)).good tt row) (λ t. absurd (not_done (ltb-false _ _ f) t))
+      (λ g. ap pause_of (step_bad tt row (kind_in row) refl plain offered (entry (kind_in row)).head refl (ltb-false _ _ f) g))))

@@ -12,7 +12,7 @@ use Rattle.cursor.specs.declared.Defined.{Defined}
 use Rattle.command.specs.declared.Data.{Data}
 use Rattle.command.specs.declared.Step.{Step}
 use Rattle.command.specs.declared.Step.TheVariants as Step
-use Rattle.command.specs.Findings.{stepIn}
+use Rattle.command.specs.Findings.{step_in}
 use Rattle.effect.specs.declared.Marks.{Marks}
 use Rattle.effect.specs.Effects.{Scene, Machine}
 use Rattle.run.specs.declared.View.{View}
@@ -22,8 +22,8 @@ use Rattle.run.specs.declared.Paused.{Paused}
 use Rattle.run.specs.declared.Stop.{Stop}
 use Rattle.run.specs.declared.Stop.TheVariants.{Goes, Stops}
 use Rattle.run.specs.declared.Turned.{Turned}
-use Rattle.run.specs.Turns.{words_in, passedIn, row_in}
-use Rattle.run.specs.Run.{machine, table, stamped, posting, postedIn}
+use Rattle.run.specs.Turns.{words_in, passed_in, row_in}
+use Rattle.run.specs.Run.{machine, table, stamped, posting, posted_in}
 
 -- So many commands before a run.
 abbrev pub plus : ℕ → LineRun Machine → LineRun Machine
@@ -47,25 +47,25 @@ module _ (s : Scene) (budget : ℕ) (v₀ : View) (ring₀ : List ℕ) (m₀ : M
     pub gone : ℕ
     pub part : gone ≤ v₀.n
     pub still : left ≡ budget → (gone ≡ 0) × (m.posted ≡ m₀.posted)
-    pub view : v ≡ passedIn v₀ gone
+    pub view : v ≡ passed_in v₀ gone
     pub memory : ring ≡ cond (eqb left budget) ring₀ (stamped v.at (posting s.posts m.posted ring₀))
     pub rest : runs (turn s v₀) budget (line (words_in ring₀ v₀) m₀) ≡ plus (budget - left) (runs (turn s v₀) left (line (drop gone (words_in ring₀ v₀)) m))
 
 -- ---- commands in a row of words
 
 -- Why commands in a row come to an end at a step. A command that is executed is none of these.
-abbrev pub pauseOf : Step → Pause
-pauseOf (Step.Does a n) = Spent
-pauseOf Step.Short = Short
-pauseOf (Step.Faults c) = Faults c
-pauseOf (Step.Long d) = Long d
+abbrev pub pause_of : Step → Pause
+pause_of (Step.Does a n) = Spent
+pause_of Step.Short = Short
+pause_of (Step.Faults c) = Faults c
+pause_of (Step.Long d) = Long d
 
 -- Why commands in a row came to an end there, with so much of the budget left.
 pub record Pauses (why : Pause) (left : ℕ) (row : List ℕ) : Type 0 where
   pub spent : why ≡ Spent → left ≡ 0
-  pub short : why ≡ Short → (1 ≤ left) × (stepIn tt row ≡ Step.Short)
-  pub faults : (c : Cause) → why ≡ Faults c → (1 ≤ left) × (stepIn tt row ≡ Step.Faults c)
-  pub long : (d : Data) → why ≡ Long d → (1 ≤ left) × (stepIn tt row ≡ Step.Long d)
+  pub short : why ≡ Short → (1 ≤ left) × (step_in tt row ≡ Step.Short)
+  pub faults : (c : Cause) → why ≡ Faults c → (1 ≤ left) × (step_in tt row ≡ Step.Faults c)
+  pub long : (d : Data) → why ≡ Long d → (1 ≤ left) × (step_in tt row ≡ Step.Long d)
 
 -- Commands in the row from word a up to word e were run, from a fence and a screen to others: whatever follows the row, and whatever the cursor. They
 -- ended at word at, with so much of the budget left. What is posted stands in the memory's word 6.
@@ -75,12 +75,12 @@ module _ (s : Scene) (budget : ℕ) (memory₀ : List ℕ) (a e : ℕ) (fence₀
     pub from : a ≤ at
     pub within : at ≤ e
     pub still : left ≡ budget → (at ≡ a) × (fence ≡ fence₀) × (screen ≡ screen₀)
-    pub stamp : memory ≡ cond (eqb left budget) memory₀ (stamped at (posting s.posts (postedIn s.posts memory) memory₀))
+    pub stamp : memory ≡ cond (eqb left budget) memory₀ (stamped at (posting s.posts (posted_in s.posts memory) memory₀))
     pub rest : (cap : ℕ) (tail : List ℕ) (defined : Defined) (cursor : List ℕ) → 10 ≤ cap → e - a ≤ cap
         → runs (turn_of cap (table s)) budget
-        (line (row_in memory₀ a e ++ tail) (machine (marked fence₀ defined) screen₀ cursor (postedIn s.posts memory₀)))
+        (line (row_in memory₀ a e ++ tail) (machine (marked fence₀ defined) screen₀ cursor (posted_in s.posts memory₀)))
         ≡ plus (budget - left) (runs (turn_of cap (table s)) left
-        (line (row_in memory₀ at e ++ tail) (machine (marked fence defined) screen cursor (postedIn s.posts memory))))
+        (line (row_in memory₀ at e ++ tail) (machine (marked fence defined) screen cursor (posted_in s.posts memory))))
 
   abbrev pub RowRun : Paused → List ℕ → List ℕ → Type 0
   RowRun p memory screen = RowGoing p.at p.fence p.left memory screen × Pauses p.why p.left (row_in memory₀ p.at e)
@@ -94,24 +94,24 @@ pub record After : Type 0 where
   pub ring : List ℕ
   pub machine : Machine
 
-abbrev pub stopOf : Stop → Option End
-stopOf Goes = none
-stopOf (Stops e) = some e
+abbrev pub stop_of : Stop → Option End
+stop_of Goes = none
+stop_of (Stops e) = some e
 
 abbrev pub after : Bool → Turned → List ℕ → List ℕ → List ℕ → After
 after posts t ring screen cursor =
-    record { stop = stopOf t.stop; view = t.view; ring = ring; machine = machine t.marks screen cursor (postedIn posts ring) }
+    record { stop = stop_of t.stop; view = t.view; ring = ring; machine = machine t.marks screen cursor (posted_in posts ring) }
 
 -- A turn that ends leaves all as it was; a command that was executed is passed, ring word 3 says so, and word 6 has what is posted.
-abbrev pub turnedBy : Bool → View → List ℕ → Machine → O.Turn Machine → After
-turnedBy posts v ring m (ends e) = record { stop = some e; view = v; ring = ring; machine = m }
-turnedBy posts v ring m (exec n t) =
-    record { stop = none; view = passedIn v n; ring = stamped (passedIn v n).at (posting posts t.posted ring); machine = t }
+abbrev pub turned_by : Bool → View → List ℕ → Machine → O.Turn Machine → After
+turned_by posts v ring m (ends e) = record { stop = some e; view = v; ring = ring; machine = m }
+turned_by posts v ring m (exec n t) =
+    record { stop = none; view = passed_in v n; ring = stamped (passed_in v n).at (posting posts t.posted ring); machine = t }
 
 unfoldable pub turned : Scene → View → List ℕ → Machine → After
-turned s v ring m = turnedBy s.posts v ring m (turn s v m (words_in ring v))
+turned s v ring m = turned_by s.posts v ring m (turn s v m (words_in ring v))
 
 -- A turn that touches neither screen nor framebuffer, whatever they are.
 abbrev pub DataTurned : View → Marks → List ℕ → List ℕ → Turned → List ℕ → List ℕ → Type 0
 DataTurned v marks ring₀ cursor₀ t ring cursor = (s : Scene) (screen : List ℕ)
-    → after s.posts t ring screen cursor ≡ turned s v ring₀ (machine marks screen cursor₀ (postedIn s.posts ring₀))
+    → after s.posts t ring screen cursor ≡ turned s v ring₀ (machine marks screen cursor₀ (posted_in s.posts ring₀))

@@ -1,8 +1,8 @@
 -- The words that wait in a ring memory, as a run walks over them: document 01, "One command out of the ring". Nothing here has to be believed.
 use Rattle.std.specs.Prelude.{ℕ, ◌+◌, ◌-◌, ◌*◌, ◌/◌, ◌≤◌, ◌<◌, Bool, true, cond, List, ltb, eqb, length, take, drop, get_or, ◌≡◌}
-use Rattle.cursor.specs.Plane.{maxSide, imageWords}
+use Rattle.cursor.specs.Plane.{max_side, image_words}
 use Rattle.ring.specs.declared.Ring.{Ring}
-use Rattle.ring.specs.Acceptance.{maxWords}
+use Rattle.ring.specs.Acceptance.{max_words}
 use Rattle.ring.specs.Waiting.{ahead, between, words}
 use Rattle.command.specs.declared.Action.{Action}
 use Rattle.command.specs.declared.Action.TheVariants.{Update, Fill, Copy, Define, Fence, Nothing}
@@ -13,7 +13,7 @@ use Rattle.execution.specs.declared.Cause.TheVariants.{BadNext}
 use Rattle.execution.specs.declared.End.TheVariants.{Fault}
 use Rattle.effect.specs.declared.Marks.{Marks}
 use Rattle.execution.specs.Claim as Claim
-use Rattle.run.specs.Run.{postsIn}
+use Rattle.run.specs.Run.{posts_in}
 
 -- The remembered ring of a view.
 abbrev pub place_of : View → Ring
@@ -34,14 +34,14 @@ pub record InView (v : View) (m : ℕ) : Type 0 where
 pub record Stands (posts : Bool) (v : View) (ring cursor : List ℕ) : Type 0 where
   pub inside : InView v (length ring)
   pub low : 4 ≤ v.lo
-  pub small : v.hi ≤ maxWords
+  pub small : v.hi ≤ max_words
   pub carries : 10 + v.lo < v.hi
-  pub image : length cursor ≡ imageWords
-  pub posted : posts ≡ postsIn (place_of v)
+  pub image : length cursor ≡ image_words
+  pub posted : posts ≡ posts_in (place_of v)
 
 -- A view behind its first k words.
-abbrev pub passedIn : View → ℕ → View
-passedIn v k = record { lo = v.lo; hi = v.hi; at = ahead v.lo v.hi v.at k; n = v.n - k }
+abbrev pub passed_in : View → ℕ → View
+passed_in v k = record { lo = v.lo; hi = v.hi; at = ahead v.lo v.hi v.at k; n = v.n - k }
 
 -- The words that wait from STOP up to a usable NEXT_CMD.
 abbrev pub view_of : Ring → ℕ → View
@@ -52,7 +52,7 @@ abbrev pub Ready : Action → ℕ → Type 0
 Ready (Update r) n = Unit {0}
 Ready (Fill r colour rop) n = Unit {0}
 Ready (Copy from r rop) n = Unit {0}
-Ready (Define s) n = (6 + s.w * s.h ≤ n) × (s.w ≤ maxSide) × (s.h ≤ maxSide)
+Ready (Define s) n = (6 + s.w * s.h ≤ n) × (s.w ≤ max_side) × (s.h ≤ max_side)
 Ready (Fence number) n = Unit {0}
 Ready Nothing n = Unit {0}
 
@@ -63,8 +63,8 @@ abbrev pub row_in : List ℕ → ℕ → ℕ → List ℕ
 row_in memory a e = take (e - a) (drop a memory)
 
 -- Where the words of a view end that lie in a row. The ring's last word is in no row, so that STOP never comes to stand at MAX.
-unfoldable pub rowEnd : View → ℕ
-rowEnd v = cond (ltb (v.at + v.n) v.hi) (v.at + v.n) (v.hi - 1)
+unfoldable pub row_end : View → ℕ
+row_end v = cond (ltb (v.at + v.n) v.hi) (v.at + v.n) (v.hi - 1)
 
 -- Where fences are posted in word 6, words from this one on lie behind it.
 abbrev pub Clear : Bool → ℕ → Type 0
@@ -79,9 +79,9 @@ pub record LineOf (ring : List ℕ) (v : View) (line : List ℕ) (e : ℕ) : Typ
   pub six : get_or line 6 0 ≡ get_or ring 6 0
 
 -- What the code gives that ended at a view.
-abbrev pub ranTo : View → RunEnd → ℕ → Marks → RingRun
-ranTo v answer count marks = record { answer = answer; count = count; ring = place_of v; marks = marks }
+abbrev pub ran_to : View → RunEnd → ℕ → Marks → RingRun
+ran_to v answer count marks = record { answer = answer; count = count; ring = place_of v; marks = marks }
 
 -- The answer where NEXT_CMD is unusable: "budget used up: 2" comes before 13.
-unfoldable pub nextUnusable : ℕ → Claim.Answer
-nextUnusable budget = cond (eqb budget 0) Claim.spent (Claim.ended (Fault BadNext))
+unfoldable pub next_unusable : ℕ → Claim.Answer
+next_unusable budget = cond (eqb budget 0) Claim.spent (Claim.ended (Fault BadNext))

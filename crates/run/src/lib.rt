@@ -3,17 +3,17 @@ ghost use Rattle.std.specs.Prelude.{◌≡◌, true, cond, ◌+◌, ◌/◌, ◌
 ghost use Rattle.std.proofs.Math.Seq.{paste};
 ghost use Rattle.execution.specs.declared.Cause.TheVariants.{BadOperand};
 ghost use Rattle.execution.specs.Table.{turn_of};
-ghost use Rattle.cursor.specs.Plane.{imageWords};
-ghost use Rattle.ring.specs.Acceptance.{maxWords};
+ghost use Rattle.cursor.specs.Plane.{image_words};
+ghost use Rattle.ring.specs.Acceptance.{max_words};
 ghost use Rattle.ring.specs.Waiting.{between, words, carried};
-ghost use Rattle.command.specs.Commands.{kindIn};
-ghost use Rattle.command.specs.Findings.{kindWith, stepIn};
-ghost use Rattle.effect.specs.Effects.{scene, postedAfter, cursorAfter};
+ghost use Rattle.command.specs.Commands.{kind_in};
+ghost use Rattle.command.specs.Findings.{kind_with, step_in};
+ghost use Rattle.effect.specs.Effects.{scene, posted_after, cursor_after};
 ghost use Rattle.run.specs.declared.Pause.TheVariants.{Spent, Short, Faults};
 ghost use Rattle.run.specs.declared.Stop.TheVariants.{Goes, Stops};
-ghost use Rattle.run.specs.Turns.{InView, Stands, words_in, passedIn, view_of, row_in, Ready, rowEnd, Clear, LineOf, place_of, ranTo, nextUnusable};
-ghost use Rattle.run.specs.Going.{RowGoing, RowRun, pauseOf, after, turned, DataTurned};
-ghost use Rattle.run.specs.Run.{machine, table, stamped, postsIn, posting, postedIn, ringOutcome, runWords, fitting, answer_of, runIn};
+ghost use Rattle.run.specs.Turns.{InView, Stands, words_in, passed_in, view_of, row_in, Ready, row_end, Clear, LineOf, place_of, ran_to, next_unusable};
+ghost use Rattle.run.specs.Going.{RowGoing, RowRun, pause_of, after, turned, DataTurned};
+ghost use Rattle.run.specs.Run.{machine, table, stamped, posts_in, posting, posted_in, ring_outcome, run_words, fitting, answer_of, run_in};
 
 use command::{Action, Data, Finding, Kind, Step};
 use cursor::IMAGE_WORDS;
@@ -80,7 +80,7 @@ fn view_of(at: Ring, next: u32) -> View
 
 // "ring word 3 is written": the only function that writes it. STOP has come to word at.
 fn stamp(ring: &mut [u32], at: usize)
-    requires { (4 ≤ length ring.old) × (at ≤ maxWords) }
+    requires { (4 ≤ length ring.old) × (at ≤ max_words) }
     ensures { ring.new ≡ stamped at ring.old }
 {
     ring[3] = (at * 4) as u32;
@@ -97,7 +97,7 @@ fn post(ring: &mut [u32], number: u32)
 // Word 6's part of an action, where fences are posted there.
 fn post_fence(action: Action, posts: bool, ring: &mut [u32])
     requires { Clear posts (length ring.old) }
-    ensures { ring.new ≡ posting posts (postedAfter posts action (postedIn posts ring.old)) ring.old }
+    ensures { ring.new ≡ posting posts (posted_after posts action (posted_in posts ring.old)) ring.old }
 {
     match action {
         Action::Update(_) => {}
@@ -168,8 +168,8 @@ fn copy_pixels(ring: &[u32], v: View, count: usize, cursor: &mut [u32])
 fn bring_cursor(action: Action, ring: &[u32], v: View, cursor: &mut [u32])
     requires in_view { InView v (length ring.now) }
     requires ready { Ready action v.n }
-    requires cursor_len { length cursor.old ≡ imageWords }
-    ensures { cursor.new ≡ cursorAfter action (words_in ring.now v) cursor.old }
+    requires cursor_len { length cursor.old ≡ image_words }
+    ensures { cursor.new ≡ cursor_after action (words_in ring.now v) cursor.old }
 {
     match action {
         Action::Update(_) => {}
@@ -183,8 +183,8 @@ fn bring_cursor(action: Action, ring: &[u32], v: View, cursor: &mut [u32])
 
 // A view behind its first size words.
 fn pass(v: View, size: usize) -> View
-    requires { (v.lo ≤ v.at) × (v.at < v.hi) × (size ≤ v.n) × (v.n + v.lo < v.hi) × (v.hi ≤ maxWords) }
-    ensures { result ≡ passedIn v size }
+    requires { (v.lo ≤ v.at) × (v.at < v.hi) × (size ≤ v.n) × (v.n + v.lo < v.hi) × (v.hi ≤ max_words) }
+    ensures { result ≡ passed_in v size }
 {
     let lo = v.lo;
     let hi = v.hi;
@@ -203,7 +203,7 @@ fn pass(v: View, size: usize) -> View
 
 // The remembered ring of a view.
 fn place_of(v: View) -> Ring
-    requires { (v.lo ≤ v.hi) × (v.at ≤ v.hi) × (v.hi ≤ maxWords) }
+    requires { (v.lo ≤ v.hi) × (v.at ≤ v.hi) × (v.hi ≤ max_words) }
     ensures { result ≡ place_of v }
 {
     Ring {
@@ -253,10 +253,10 @@ fn row_turns(
     screen: &mut [u32],
     frame: Frame,
 ) -> RowEnd
-    requires { (4 ≤ from) × (from ≤ end) × (end ≤ length memory.old) × (end ≤ maxWords) × Clear posts from }
+    requires { (4 ≤ from) × (from ≤ end) × (end ≤ length memory.old) × (end ≤ max_words) × Clear posts from }
     ensures { RowGoing (scene frame framebuffer.now posts) budget memory.old from end before screen.old
         result.at result.fence result.left memory.new screen.new
-        × (1 ≤ result.left → pauseOf (stepIn tt (row_in memory.old result.at end)) ≡ Spent → ⊥) }
+        × (1 ≤ result.left → pause_of (step_in tt (row_in memory.old result.at end)) ≡ Spent → ⊥) }
 {
     let mut at = from;
     let mut fence = before;
@@ -288,8 +288,8 @@ fn fixed_pause(words: usize, size: usize) -> Pause
 
 // Why words at which commands in a row ended are not executed: a command of fixed length is short, or all there with a bad operand, whatever its check is.
 fn pause_in(row: &[u32]) -> Pause
-    requires { pauseOf (stepIn tt row.now) ≡ Spent → ⊥ }
-    ensures { result ≡ pauseOf (stepIn tt row.now) }
+    requires { pause_of (step_in tt row.now) ≡ Spent → ⊥ }
+    ensures { result ≡ pause_of (step_in tt row.now) }
 {
     if row.len() == 0 {
         return Pause::Short;
@@ -313,7 +313,7 @@ fn line_turn(
     screen: &mut [u32],
     frame: Frame,
 ) -> Paused
-    requires { (7 ≤ end) × (end ≤ length line.old) × (end ≤ maxWords) }
+    requires { (7 ≤ end) × (end ≤ length line.old) × (end ≤ max_words) }
     ensures { RowRun (scene frame framebuffer.now posts) 1 line.old 7 end before screen.old
         result line.new screen.new }
 {
@@ -340,8 +340,8 @@ fn line_turn(
 
 // Where the words of a view end that lie in a row.
 fn row_end(v: View) -> usize
-    requires { (v.at < v.hi) × (v.n + v.lo < v.hi) × (v.hi ≤ maxWords) }
-    ensures { result ≡ rowEnd v }
+    requires { (v.at < v.hi) × (v.n + v.lo < v.hi) × (v.hi ≤ max_words) }
+    ensures { result ≡ row_end v }
 {
     let past = v.at + v.n;
     let hi = v.hi;
@@ -382,9 +382,9 @@ fn stopped(v: View, marks: Marks, end: End) -> Turned
 // A command of size words was executed: it is passed, and ring word 3 says so.
 fn executed(v: View, size: usize, marks: Marks, ring: &mut [u32]) -> Turned
     requires in_view { InView v (length ring.old) }
-    requires size_le_n { (size ≤ v.n) × (v.hi ≤ maxWords) × (4 ≤ length ring.old) }
-    ensures value { result ≡ record { stop = Goes; view = passedIn v size; marks = marks } }
-    ensures ring_after { ring.new ≡ stamped (passedIn v size).at ring.old }
+    requires size_le_n { (size ≤ v.n) × (v.hi ≤ max_words) × (4 ≤ length ring.old) }
+    ensures value { result ≡ record { stop = Goes; view = passed_in v size; marks = marks } }
+    ensures ring_after { ring.new ≡ stamped (passed_in v size).at ring.old }
 {
     let to = pass(v, size);
     stamp(ring, to.at);
@@ -404,8 +404,8 @@ fn data_turn(
     ring: &mut [u32],
     cursor: &mut [u32],
 ) -> Turned
-    requires stands { Stands (postsIn (place_of v)) v ring.old cursor.old }
-    requires le_n { (1 ≤ v.n) × (head.now ≡ take 10 (words_in ring.old v)) × (kindIn (words_in ring.old v) ≡ kindWith tail) }
+    requires stands { Stands (posts_in (place_of v)) v ring.old cursor.old }
+    requires le_n { (1 ≤ v.n) × (head.now ≡ take 10 (words_in ring.old v)) × (kind_in (words_in ring.old v) ≡ kind_with tail) }
     ensures { DataTurned v marks ring.old cursor.old result ring.new cursor.new }
 {
     let n = v.n;
@@ -446,7 +446,7 @@ fn fill_line(ring: &[u32], v: View, line: &mut [u32]) -> usize
 // What a line's command posted there, into the ring. A command that posts nothing leaves word 6 unwritten.
 fn bring_posted(line: &[u32], posts: bool, ring: &mut [u32])
     requires { (7 ≤ length line.now) × (7 ≤ length ring.old) }
-    ensures { ring.new ≡ posting posts (postedIn posts line.now) ring.old }
+    ensures { ring.new ≡ posting posts (posted_in posts line.now) ring.old }
 {
     if posts {
         let number = line[6];
@@ -470,7 +470,7 @@ fn one_turn(
     requires { Stands posts v ring.old cursor.old }
     ensures { after posts result ring.new screen.new cursor.new
         ≡ turned (scene frame framebuffer.now posts) v ring.old
-        (machine marks screen.old cursor.old (postedIn posts ring.old)) }
+        (machine marks screen.old cursor.old (posted_in posts ring.old)) }
 {
     let n = v.n;
     if n == 0 {
@@ -511,8 +511,8 @@ fn one_turn(
 
 // What a run gives that ended at a view.
 fn ran_to(v: View, answer: RunEnd, count: u32, marks: Marks) -> RingRun
-    requires { (v.lo ≤ v.hi) × (v.at ≤ v.hi) × (v.hi ≤ maxWords) }
-    ensures { result ≡ ranTo v answer count marks }
+    requires { (v.lo ≤ v.hi) × (v.at ≤ v.hi) × (v.hi ≤ max_words) }
+    ensures { result ≡ ran_to v answer count marks }
 {
     RingRun {
         answer,
@@ -535,10 +535,10 @@ fn turns(
     frame: Frame,
 ) -> RingRun
     requires { Stands posts view ring.old cursor.old }
-    ensures { ringOutcome result ring.new screen.new cursor.new
-        ≡ runWords (turn_of (carried view.lo view.hi) (table (scene frame framebuffer.now posts))) (place_of view) budget
+    ensures { ring_outcome result ring.new screen.new cursor.new
+        ≡ run_words (turn_of (carried view.lo view.hi) (table (scene frame framebuffer.now posts))) (place_of view) budget
         ring.old (words_in ring.old view)
-        (machine before screen.old cursor.old (postedIn posts ring.old)) }
+        (machine before screen.old cursor.old (posted_in posts ring.old)) }
 {
     let mut v = view;
     let mut marks = before;
@@ -595,7 +595,7 @@ fn is_fitting(at: Ring, words: usize, image: usize) -> bool
 
 // The answer where NEXT_CMD is unusable: the budget is looked at first.
 fn next_unusable(budget: u32) -> RunEnd
-    ensures { answer_of result ≡ nextUnusable budget }
+    ensures { answer_of result ≡ next_unusable budget }
 {
     if budget == 0 {
         return RunEnd::Spent;
@@ -605,7 +605,7 @@ fn next_unusable(budget: u32) -> RunEnd
 
 // "When MIN is 28 or more", which is seven words: whether fences are posted in word 6.
 fn posts_in(at: Ring) -> bool
-    ensures { result ≡ postsIn at }
+    ensures { result ≡ posts_in at }
 {
     7 <= at.min
 }
@@ -623,9 +623,9 @@ pub fn run(
     cursor: &mut [u32],
     frame: Frame,
 ) -> RingRun
-    ensures { ringOutcome result ring.new screen.new cursor.new
-        ≡ runIn (scene frame framebuffer.now (postsIn at)) at budget ring.old
-        (machine marks screen.old cursor.old (postedIn (postsIn at) ring.old)) }
+    ensures { ring_outcome result ring.new screen.new cursor.new
+        ≡ run_in (scene frame framebuffer.now (posts_in at)) at budget ring.old
+        (machine marks screen.old cursor.old (posted_in (posts_in at) ring.old)) }
 {
     let fits = is_fitting(at, ring.len(), cursor.len());
     if !fits {

@@ -4,28 +4,28 @@ use Rattle.std.proofs.Math.Option.{Option, none, some}
 use Rattle.device.specs.declared.Device.{Device}
 use Rattle.offscreen.specs.declared.Edges.{Edges}
 use Rattle.device.specs.Making.{made_of}
-use Rattle.adapter.specs.Picture.{Pictured, pictureOf}
+use Rattle.adapter.specs.Picture.{Pictured, picture_of}
 use Rattle.register_read.specs.Registers.{bit, read_of}
 use Rattle.register_write.specs.Registers.{written}
 use Rattle.device_run.specs.Run.{Lent, RunOutcome, run_of}
-use Rattle.offscreen.specs.Offscreen.{offscreenOf}
-use Rattle.adapter.specs.Fence.{fenceOf, fencePassed}
+use Rattle.offscreen.specs.Offscreen.{offscreen_of}
+use Rattle.adapter.specs.Fence.{fence_of, fence_passed}
 use Rattle.device_words.specs.declared.Held.{Held}
 use Rattle.device_words.specs.declared.Held.TheVariants.{Device as Holds, Nothing}
-use Rattle.device_words.specs.Words.{wordsOf, heldIn}
+use Rattle.device_words.specs.Words.{words_of, held_in}
 
 -- Answer numbers: "20 .. lent length", "22 .. not configured", "24 .. width·height above P", "30 .. no such register"
-abbrev pub lentLength : ℕ
-lentLength = 20
+abbrev pub lent_length : ℕ
+lent_length = 20
 
-abbrev pub notConfigured : ℕ
-notConfigured = 22
+abbrev pub not_configured : ℕ
+not_configured = 22
 
-abbrev pub tooLarge : ℕ
-tooLarge = 24
+abbrev pub too_large : ℕ
+too_large = 24
 
-abbrev pub noRegister : ℕ
-noRegister = 30
+abbrev pub no_register : ℕ
+no_register = 30
 
 -- An answer in the high half, a value in the low.
 abbrev pub packed : ℕ → ℕ → ℕ
@@ -46,28 +46,28 @@ abbrev pub call : ℕ → List ℕ → Call
 call answer device = record { answer = answer; device = device }
 
 -- 0, and all words are the fresh device's; or 34, and nothing changes.
-abbrev pub madeWords : List ℕ → Option Device → List ℕ
-madeWords w none = w
-madeWords w (some d) = wordsOf d
+abbrev pub made_words : List ℕ → Option Device → List ℕ
+made_words w none = w
+made_words w (some d) = words_of d
 
-unfoldable pub svgaMake : List ℕ → ℕ → ℕ → Call
-svgaMake w memory pixels =
-    in_words w (call (made_of memory pixels).answer (madeWords w (made_of memory pixels).device)) (call lentLength w)
+unfoldable pub svga_make : List ℕ → ℕ → ℕ → Call
+svga_make w memory pixels =
+    in_words w (call (made_of memory pixels).answer (made_words w (made_of memory pixels).device)) (call lent_length w)
 
 -- Words that hold no device: no such register, 30.
-unfoldable pub writeHeld : List ℕ → List ℕ → ℕ → ℕ → Held → Call
-writeHeld w ring index value (Holds d) = call (written d ring index value).answer (wordsOf (written d ring index value).device)
-writeHeld w ring index value Nothing = call noRegister w
+unfoldable pub write_held : List ℕ → List ℕ → ℕ → ℕ → Held → Call
+write_held w ring index value (Holds d) = call (written d ring index value).answer (words_of (written d ring index value).device)
+write_held w ring index value Nothing = call no_register w
 
-unfoldable pub svgaWrite : List ℕ → List ℕ → ℕ → ℕ → Call
-svgaWrite w ring index value = in_words w (writeHeld w ring index value (heldIn w)) (call lentLength w)
+unfoldable pub svga_write : List ℕ → List ℕ → ℕ → ℕ → Call
+svga_write w ring index value = in_words w (write_held w ring index value (held_in w)) (call lent_length w)
 
-unfoldable pub readHeld : ℕ → Held → ℕ
-readHeld index (Holds d) = packed (read_of d index).answer (read_of d index).value
-readHeld index Nothing = packed noRegister 0
+unfoldable pub read_held : ℕ → Held → ℕ
+read_held index (Holds d) = packed (read_of d index).answer (read_of d index).value
+read_held index Nothing = packed no_register 0
 
-unfoldable pub svgaRead : List ℕ → ℕ → ℕ
-svgaRead w index = in_words w (readHeld index (heldIn w)) (packed lentLength 0)
+unfoldable pub svga_read : List ℕ → ℕ → ℕ
+svga_read w index = in_words w (read_held index (held_in w)) (packed lent_length 0)
 
 -- ---- run
 
@@ -76,61 +76,61 @@ pub record RunCall : Type 0 where
   pub device : List ℕ
   pub lent : Lent
 
-abbrev pub runCall : ℕ → List ℕ → Lent → RunCall
-runCall result device l = record { result = result; device = device; lent = l }
+abbrev pub run_call : ℕ → List ℕ → Lent → RunCall
+run_call result device l = record { result = result; device = device; lent = l }
 
-abbrev pub runWords : RunOutcome → RunCall
-runWords o = runCall (packed o.answer o.count) (wordsOf o.device) o.lent
+abbrev pub run_words : RunOutcome → RunCall
+run_words o = run_call (packed o.answer o.count) (words_of o.device) o.lent
 
 -- Words that hold no device: not configured, 22.
-unfoldable pub runHeld : List ℕ → Lent → ℕ → Held → RunCall
-runHeld w l budget (Holds d) = runWords (run_of d l budget)
-runHeld w l budget Nothing = runCall (packed notConfigured 0) w l
+unfoldable pub run_held : List ℕ → Lent → ℕ → Held → RunCall
+run_held w l budget (Holds d) = run_words (run_of d l budget)
+run_held w l budget Nothing = run_call (packed not_configured 0) w l
 
-unfoldable pub svgaRun : List ℕ → Lent → ℕ → RunCall
-svgaRun w l budget = in_words w (runHeld w l budget (heldIn w)) (runCall (packed lentLength 0) w l)
+unfoldable pub svga_run : List ℕ → Lent → ℕ → RunCall
+svga_run w l budget = in_words w (run_held w l budget (held_in w)) (run_call (packed lent_length 0) w l)
 
 -- ---- picture, offscreen rectangle, fences
 
 -- Words that hold no device: 24.
-unfoldable pub pictureHeld : List ℕ → List ℕ → List ℕ → Held → Pictured
-pictureHeld screen image output (Holds d) = pictureOf d screen image output
-pictureHeld screen image output Nothing = record { answer = tooLarge; output = output }
+unfoldable pub picture_held : List ℕ → List ℕ → List ℕ → Held → Pictured
+picture_held screen image output (Holds d) = picture_of d screen image output
+picture_held screen image output Nothing = record { answer = too_large; output = output }
 
-unfoldable pub svgaPicture : List ℕ → List ℕ → List ℕ → List ℕ → Pictured
-svgaPicture w screen image output = in_words w (pictureHeld screen image output (heldIn w)) (record { answer = lentLength; output = output })
+unfoldable pub svga_picture : List ℕ → List ℕ → List ℕ → List ℕ → Pictured
+svga_picture w screen image output = in_words w (picture_held screen image output (held_in w)) (record { answer = lent_length; output = output })
 
 -- What is answered, and the four edges then.
 pub record EdgesCall : Type 0 where
   pub answer : ℕ
   pub edges : List ℕ
 
-abbrev pub edgesCall : ℕ → List ℕ → EdgesCall
-edgesCall answer edges = record { answer = answer; edges = edges }
+abbrev pub edges_call : ℕ → List ℕ → EdgesCall
+edges_call answer edges = record { answer = answer; edges = edges }
 
-abbrev pub edgeWords : Edges → List ℕ
-edgeWords e = e.left ∷ e.top ∷ e.right ∷ e.bottom ∷ []
+abbrev pub edge_words : Edges → List ℕ
+edge_words e = e.left ∷ e.top ∷ e.right ∷ e.bottom ∷ []
 
 -- Words that hold no device have no rectangle: 30, as for a register that is not there, and the edges stay as they were.
-unfoldable pub edgesHeld : List ℕ → Held → EdgesCall
-edgesHeld edges (Holds d) = edgesCall 0 (edgeWords (offscreenOf d))
-edgesHeld edges Nothing = edgesCall noRegister edges
+unfoldable pub edges_held : List ℕ → Held → EdgesCall
+edges_held edges (Holds d) = edges_call 0 (edge_words (offscreen_of d))
+edges_held edges Nothing = edges_call no_register edges
 
 -- The two lengths are looked at first, the device's before that of the edges.
-unfoldable pub svgaOffscreen : List ℕ → List ℕ → EdgesCall
-svgaOffscreen w edges = in_words w (cond (eqb (length edges) 4) (edgesHeld edges (heldIn w)) (edgesCall lentLength edges)) (edgesCall lentLength edges)
+unfoldable pub svga_offscreen : List ℕ → List ℕ → EdgesCall
+svga_offscreen w edges = in_words w (cond (eqb (length edges) 4) (edges_held edges (held_in w)) (edges_call lent_length edges)) (edges_call lent_length edges)
 
 -- Words that hold no device have no fence: 30, as for a register that is not there.
-unfoldable pub fenceHeld : Held → ℕ
-fenceHeld (Holds d) = packed 0 (fenceOf d)
-fenceHeld Nothing = packed noRegister 0
+unfoldable pub fence_held : Held → ℕ
+fence_held (Holds d) = packed 0 (fence_of d)
+fence_held Nothing = packed no_register 0
 
-unfoldable pub svgaFence : List ℕ → ℕ
-svgaFence w = in_words w (fenceHeld (heldIn w)) (packed lentLength 0)
+unfoldable pub svga_fence : List ℕ → ℕ
+svga_fence w = in_words w (fence_held (held_in w)) (packed lent_length 0)
 
-unfoldable pub passedHeld : ℕ → Held → ℕ
-passedHeld f (Holds d) = packed 0 (bit (fencePassed (fenceOf d) f))
-passedHeld f Nothing = packed noRegister 0
+unfoldable pub passed_held : ℕ → Held → ℕ
+passed_held f (Holds d) = packed 0 (bit (fence_passed (fence_of d) f))
+passed_held f Nothing = packed no_register 0
 
-unfoldable pub svgaPassed : List ℕ → ℕ → ℕ
-svgaPassed w f = in_words w (passedHeld f (heldIn w)) (packed lentLength 0)
+unfoldable pub svga_passed : List ℕ → ℕ → ℕ
+svga_passed w f = in_words w (passed_held f (held_in w)) (packed lent_length 0)

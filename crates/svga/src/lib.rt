@@ -3,12 +3,12 @@
 ghost use Rattle.std.specs.Prelude.{◌≡◌, length};
 ghost use Rattle.register_read.specs.Registers.{read_of};
 ghost use Rattle.device_words.specs.declared.Held.TheVariants.{Device as Holds};
-ghost use Rattle.device_words.specs.Words.{onlyWellFormed};
-ghost use Rattle.ring.specs.Append.{appendOf};
-ghost use Rattle.writer.specs.Writing.{command, writeOf};
-ghost use Rattle.device_run.specs.Run.{lentBefore, lentAfter};
-ghost use Rattle.svga.specs.Calls.{packed, call, svgaMake, svgaWrite, svgaRead, runCall, svgaRun, svgaPicture};
-ghost use Rattle.svga.specs.Calls.{edgesCall, edgeWords, edgesHeld, svgaOffscreen, fenceHeld, svgaFence, passedHeld, svgaPassed};
+ghost use Rattle.device_words.specs.Words.{only_well_formed};
+ghost use Rattle.ring.specs.Append.{append_of};
+ghost use Rattle.writer.specs.Writing.{command, write_of};
+ghost use Rattle.device_run.specs.Run.{lent_before, lent_after};
+ghost use Rattle.svga.specs.Calls.{packed, call, svga_make, svga_write, svga_read, run_call, svga_run, svga_picture};
+ghost use Rattle.svga.specs.Calls.{edges_call, edge_words, edges_held, svga_offscreen, fence_held, svga_fence, passed_held, svga_passed};
 
 use adapter::{Device, Edges, Making, Value};
 use device_words::Held;
@@ -34,7 +34,7 @@ fn pack(answer: u32, value: u32) -> u64
 // Rules out: words written where M or P is refused; a device of 63 words.
 #[unsafe(no_mangle)]
 pub extern "C" fn svga_make(device: &mut [u32], memory: u32, pixels: u32) -> u32
-    ensures { call result device.new ≡ svgaMake device.old memory pixels }
+    ensures { call result device.new ≡ svga_make device.old memory pixels }
 {
     if device.len() != 64 {
         return LENT_LENGTH;
@@ -55,7 +55,7 @@ pub extern "C" fn svga_make(device: &mut [u32], memory: u32, pixels: u32) -> u32
 // Rules out: a refused write that changes a word; 20 for a ring that CONFIG_DONE 1 does not look at.
 #[unsafe(no_mangle)]
 pub extern "C" fn svga_write(device: &mut [u32], ring: &[u32], index: u32, value: u32) -> u32
-    ensures { call result device.new ≡ svgaWrite device.old ring.now index value }
+    ensures { call result device.new ≡ svga_write device.old ring.now index value }
 {
     if device.len() != 64 {
         return LENT_LENGTH;
@@ -92,7 +92,7 @@ fn read_value(d: Device, index: u32) -> u64
 // Rules out: a value for words that hold no device; answer and value exchanged.
 #[unsafe(no_mangle)]
 pub extern "C" fn svga_read(device: &[u32], index: u32) -> u64
-    ensures { result ≡ svgaRead device.now index }
+    ensures { result ≡ svga_read device.now index }
 {
     if device.len() != 64 {
         return pack(LENT_LENGTH, 0);
@@ -119,8 +119,8 @@ pub extern "C" fn svga_run(
     cursor: &mut [u32],
     budget: u32,
 ) -> u64
-    ensures { runCall result device.new (lentAfter ring framebuffer screen cursor)
-        ≡ svgaRun device.old (lentBefore ring framebuffer screen cursor) budget }
+    ensures { run_call result device.new (lent_after ring framebuffer screen cursor)
+        ≡ svga_run device.old (lent_before ring framebuffer screen cursor) budget }
 {
     if device.len() != 64 {
         return pack(LENT_LENGTH, 0);
@@ -149,7 +149,7 @@ pub extern "C" fn svga_picture(
     output: &mut [u32],
 ) -> u32
     ensures { record { answer = result; output = output.new }
-        ≡ svgaPicture device.now screen.now cursor.now output.old }
+        ≡ svga_picture device.now screen.now cursor.now output.old }
 {
     if device.len() != 64 {
         return LENT_LENGTH;
@@ -168,7 +168,7 @@ pub extern "C" fn svga_picture(
 
 fn put_edges(edges: &mut [u32], e: Edges)
     requires { length edges.old ≡ 4 }
-    ensures { edges.new ≡ edgeWords e }
+    ensures { edges.new ≡ edge_words e }
 {
     edges[0] = e.left;
     edges[1] = e.top;
@@ -178,7 +178,7 @@ fn put_edges(edges: &mut [u32], e: Edges)
 
 fn put_offscreen(edges: &mut [u32], d: Device) -> u32
     requires { length edges.old ≡ 4 }
-    ensures { edgesCall result edges.new ≡ edgesHeld edges.old (onlyWellFormed (Holds d)) }
+    ensures { edges_call result edges.new ≡ edges_held edges.old (only_well_formed (Holds d)) }
 {
     let well_formed = adapter::is_well_formed(d);
     if !well_formed {
@@ -193,7 +193,7 @@ fn put_offscreen(edges: &mut [u32], d: Device) -> u32
 // Rules out: width and height in place of right and bottom; four zeros and answer 0 for words that hold no device.
 #[unsafe(no_mangle)]
 pub extern "C" fn svga_offscreen(device: &[u32], edges: &mut [u32]) -> u32
-    ensures { edgesCall result edges.new ≡ svgaOffscreen device.now edges.old }
+    ensures { edges_call result edges.new ≡ svga_offscreen device.now edges.old }
 {
     if device.len() != 64 {
         return LENT_LENGTH;
@@ -209,7 +209,7 @@ pub extern "C" fn svga_offscreen(device: &[u32], edges: &mut [u32]) -> u32
 }
 
 fn fence_value(d: Device) -> u64
-    ensures { result ≡ fenceHeld (onlyWellFormed (Holds d)) }
+    ensures { result ≡ fence_held (only_well_formed (Holds d)) }
 {
     let well_formed = adapter::is_well_formed(d);
     if !well_formed {
@@ -222,7 +222,7 @@ fn fence_value(d: Device) -> u64
 // Rules out: a fence of words that hold no device; 0 always.
 #[unsafe(no_mangle)]
 pub extern "C" fn svga_fence(device: &[u32]) -> u64
-    ensures { result ≡ svgaFence device.now }
+    ensures { result ≡ svga_fence device.now }
 {
     if device.len() != 64 {
         return pack(LENT_LENGTH, 0);
@@ -239,7 +239,7 @@ pub extern "C" fn svga_fence(device: &[u32]) -> u64
 }
 
 fn passed_value(d: Device, fence: u32) -> u64
-    ensures { result ≡ passedHeld fence (onlyWellFormed (Holds d)) }
+    ensures { result ≡ passed_held fence (only_well_formed (Holds d)) }
 {
     let well_formed = adapter::is_well_formed(d);
     if !well_formed {
@@ -256,7 +256,7 @@ fn passed_value(d: Device, fence: u32) -> u64
 // Rules out: fence 2 passed when the last is 1; a refusal that reads as passed.
 #[unsafe(no_mangle)]
 pub extern "C" fn svga_fence_passed(device: &[u32], fence: u32) -> u64
-    ensures { result ≡ svgaPassed device.now fence }
+    ensures { result ≡ svga_passed device.now fence }
 {
     if device.len() != 64 {
         return pack(LENT_LENGTH, 0);
@@ -276,7 +276,7 @@ pub extern "C" fn svga_fence_passed(device: &[u32], fence: u32) -> u64
 // Rules out: a word taken by a full ring; NEXT_CMD moved by a refused append.
 #[unsafe(no_mangle)]
 pub extern "C" fn svga_append(ring: &mut [u32], word: u32) -> u32
-    ensures { record { answer = result; ring = ring.new } ≡ appendOf ring.old word }
+    ensures { record { answer = result; ring = ring.new } ≡ append_of ring.old word }
 {
     let answer = ring::append(ring, word);
     ring::append_number(answer)
@@ -292,7 +292,7 @@ pub extern "C" fn svga_append_command(
     bytes: &[u8],
 ) -> u32
     ensures { record { answer = result; ring = ring.new }
-        ≡ writeOf ring.old (command head.now pixels.now bytes.now) }
+        ≡ write_of ring.old (command head.now pixels.now bytes.now) }
 {
     let answer = writer::write(ring, head, pixels, bytes);
     writer::writer_number(answer)

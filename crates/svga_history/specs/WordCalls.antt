@@ -1,12 +1,12 @@
 -- Every call of the library for C and Rust, on lent words, as one history.
 use Rattle.std.specs.Prelude.{ℕ, ◌/◌, ◌%◌, ◌<◌, ◌≡◌, cond, List, [], ◌∷◌, map, eqb, get_or}
-use Rattle.ring.specs.Append.{appendOf}
-use Rattle.writer.specs.Writing.{writeOf}
+use Rattle.ring.specs.Append.{append_of}
+use Rattle.writer.specs.Writing.{write_of}
 use Rattle.writer.specs.Reading.{InBytes}
-use Rattle.device_run.specs.Run.{Lent, withRing}
+use Rattle.device_run.specs.Run.{Lent, with_ring}
 use Rattle.device_words.specs.declared.Held.TheVariants.{Device as Holds}
-use Rattle.device_words.specs.Words.{deviceFrom, heldIn}
-use Rattle.svga.specs.Calls.{svgaMake, svgaWrite, svgaRead, svgaRun, svgaPicture, svgaOffscreen, svgaFence, svgaPassed}
+use Rattle.device_words.specs.Words.{device_from, held_in}
+use Rattle.svga.specs.Calls.{svga_make, svga_write, svga_read, svga_run, svga_picture, svga_offscreen, svga_fence, svga_passed}
 use Rattle.history.specs.Calls.{World, Call, make, write, read, run, append, submit, picture, offscreen, fence, passed, lend, CallOutcome, History}
 
 -- ---- packed results
@@ -15,8 +15,8 @@ use Rattle.history.specs.Calls.{World, Call, make, write, read, run, append, sub
 abbrev pub answer_in : ℕ → ℕ
 answer_in result = result / 4294967296
 
-abbrev pub valueIn : ℕ → ℕ
-valueIn result = result % 4294967296
+abbrev pub value_in : ℕ → ℕ
+value_in result = result % 4294967296
 
 -- ---- what a host lends
 
@@ -31,12 +31,12 @@ abbrev pub host : List ℕ → Lent → List ℕ → List ℕ → Host
 host device l output edges = record { device = device; lent = l; output = output; edges = edges }
 
 -- The device in the words, with the memories as the device's own calls have them.
-abbrev pub worldIn : Host → World
-worldIn h = record { device = deviceFrom h.device; lent = h.lent; output = h.output }
+abbrev pub world_in : Host → World
+world_in h = record { device = device_from h.device; lent = h.lent; output = h.output }
 
 -- The words hold that device.
 abbrev pub HoldsDevice : Host → Type 0
-HoldsDevice h = heldIn h.device ≡ Holds (deviceFrom h.device)
+HoldsDevice h = held_in h.device ≡ Holds (device_from h.device)
 
 -- ---- the calls
 
@@ -51,47 +51,47 @@ outcome answer values h = record { answer = answer; values = values; host = h }
 
 -- Each call of the library by the definition that its contract cites, its packed result in two halves. The edges are the values of an offscreen
 -- rectangle that was taken. To lend other memories is what a host does between calls.
-unfoldable pub performWords : Call → Host → WordOutcome
-performWords (make memory pixels) h =
-    let o = svgaMake h.device memory pixels in outcome o.answer [] (host o.device h.lent h.output h.edges)
-performWords (write index value) h =
-    let o = svgaWrite h.device h.lent.ring index value in outcome o.answer [] (host o.device h.lent h.output h.edges)
-performWords (read index) h = let r = svgaRead h.device index in outcome (answer_in r) (valueIn r ∷ []) h
-performWords (run budget) h =
-    let o = svgaRun h.device h.lent budget in
-    outcome (answer_in o.result) (valueIn o.result ∷ []) (host o.device o.lent h.output h.edges)
-performWords (append word) h =
-    let o = appendOf h.lent.ring word in outcome o.answer [] (host h.device (withRing h.lent o.ring) h.output h.edges)
-performWords (submit c) h =
-    let o = writeOf h.lent.ring c in outcome o.answer [] (host h.device (withRing h.lent o.ring) h.output h.edges)
-performWords picture h =
-    let o = svgaPicture h.device h.lent.screen h.lent.cursor h.output in
+unfoldable pub perform_words : Call → Host → WordOutcome
+perform_words (make memory pixels) h =
+    let o = svga_make h.device memory pixels in outcome o.answer [] (host o.device h.lent h.output h.edges)
+perform_words (write index value) h =
+    let o = svga_write h.device h.lent.ring index value in outcome o.answer [] (host o.device h.lent h.output h.edges)
+perform_words (read index) h = let r = svga_read h.device index in outcome (answer_in r) (value_in r ∷ []) h
+perform_words (run budget) h =
+    let o = svga_run h.device h.lent budget in
+    outcome (answer_in o.result) (value_in o.result ∷ []) (host o.device o.lent h.output h.edges)
+perform_words (append word) h =
+    let o = append_of h.lent.ring word in outcome o.answer [] (host h.device (with_ring h.lent o.ring) h.output h.edges)
+perform_words (submit c) h =
+    let o = write_of h.lent.ring c in outcome o.answer [] (host h.device (with_ring h.lent o.ring) h.output h.edges)
+perform_words picture h =
+    let o = svga_picture h.device h.lent.screen h.lent.cursor h.output in
     outcome o.answer [] (host h.device h.lent o.output h.edges)
-performWords offscreen h =
-    let o = svgaOffscreen h.device h.edges in
+perform_words offscreen h =
+    let o = svga_offscreen h.device h.edges in
     outcome o.answer (cond (eqb o.answer 0) o.edges []) (host h.device h.lent h.output o.edges)
-performWords fence h = let r = svgaFence h.device in outcome (answer_in r) (valueIn r ∷ []) h
-performWords (passed number) h = let r = svgaPassed h.device number in outcome (answer_in r) (valueIn r ∷ []) h
-performWords (lend l output) h = outcome 0 [] (host h.device l output h.edges)
+perform_words fence h = let r = svga_fence h.device in outcome (answer_in r) (value_in r ∷ []) h
+perform_words (passed number) h = let r = svga_passed h.device number in outcome (answer_in r) (value_in r ∷ []) h
+perform_words (lend l output) h = outcome 0 [] (host h.device l output h.edges)
 
 -- The same as an outcome on the device in the words.
-abbrev pub asCall : WordOutcome → CallOutcome
-asCall o = record { answer = o.answer; values = o.values; world = worldIn o.host }
+abbrev pub as_call : WordOutcome → CallOutcome
+as_call o = record { answer = o.answer; values = o.values; world = world_in o.host }
 
 -- What calls in a row answer and leave, each on what the last one left.
 pub record WordHistory : Type 0 where
   pub outcomes : List WordOutcome
   pub host : Host
 
-unfoldable pub performWordsAll : List Call → Host → WordHistory
-performWordsAll [] h = record { outcomes = []; host = h }
-performWordsAll (c ∷ cs) h =
-    let o = performWords c h in
-    let z = performWordsAll cs o.host in
+unfoldable pub perform_words_all : List Call → Host → WordHistory
+perform_words_all [] h = record { outcomes = []; host = h }
+perform_words_all (c ∷ cs) h =
+    let o = perform_words c h in
+    let z = perform_words_all cs o.host in
     record { outcomes = o ∷ z.outcomes; host = z.host }
 
-abbrev pub asHistory : WordHistory → History
-asHistory z = record { outcomes = map asCall z.outcomes; world = worldIn z.host }
+abbrev pub as_history : WordHistory → History
+as_history z = record { outcomes = map as_call z.outcomes; world = world_in z.host }
 
 -- What may happen: a call; or somebody puts any words where the device and the edges stood.
 pub data HostStep : Type 0 where
@@ -99,7 +99,7 @@ pub data HostStep : Type 0 where
   put : List ℕ → List ℕ → HostStep
 
 abbrev pub stepped : HostStep → Host → Host
-stepped (call c) h = (performWords c h).host
+stepped (call c) h = (perform_words c h).host
 stepped (put device edges) h = host device h.lent h.output edges
 
 -- ---- what every machine keeps to

@@ -3,24 +3,24 @@
 use Rattle.std.specs.Prelude.{ℕ, ◌≤◌, ◌≡◌, true, List, [], ◌∷◌, length, get_or}
 use Rattle.history.specs.Calls.{Call, make, write, read, run, append, submit, picture, offscreen, fence, passed, lend}
 use Rattle.history.specs.Harm.{among, OnlyNamed}
-use Rattle.svga_history.specs.WordCalls.{Host, worldIn, HoldsDevice, WordOutcome, performWords, asCall, HostStep, call, put, stepped, WordHost}
+use Rattle.svga_history.specs.WordCalls.{Host, world_in, HoldsDevice, WordOutcome, perform_words, as_call, HostStep, call, put, stepped, WordHost}
 
 -- ---- answers
 
 -- The numbers that a call can answer: document 01's, "20 .. lent length" for the device's words and the edges too, and for words that hold no device
 -- those of `svga/Calls`.
-abbrev pub wordRow : Call → List ℕ
-wordRow (make memory pixels) = 0 ∷ 20 ∷ 34 ∷ []
-wordRow (write index value) = 0 ∷ 20 ∷ 30 ∷ 31 ∷ 32 ∷ 33 ∷ []
-wordRow (read index) = 0 ∷ 20 ∷ 30 ∷ []
-wordRow (run budget) = 0 ∷ 1 ∷ 2 ∷ 10 ∷ 11 ∷ 12 ∷ 13 ∷ 20 ∷ 21 ∷ 22 ∷ 23 ∷ 24 ∷ []
-wordRow (append word) = 0 ∷ 1 ∷ []
-wordRow (submit c) = 0 ∷ 20 ∷ 33 ∷ 40 ∷ 41 ∷ []
-wordRow picture = 0 ∷ 20 ∷ 24 ∷ []
-wordRow offscreen = 0 ∷ 20 ∷ 30 ∷ []
-wordRow fence = 0 ∷ 20 ∷ 30 ∷ []
-wordRow (passed number) = 0 ∷ 20 ∷ 30 ∷ []
-wordRow (lend l output) = 0 ∷ []
+abbrev pub word_row : Call → List ℕ
+word_row (make memory pixels) = 0 ∷ 20 ∷ 34 ∷ []
+word_row (write index value) = 0 ∷ 20 ∷ 30 ∷ 31 ∷ 32 ∷ 33 ∷ []
+word_row (read index) = 0 ∷ 20 ∷ 30 ∷ []
+word_row (run budget) = 0 ∷ 1 ∷ 2 ∷ 10 ∷ 11 ∷ 12 ∷ 13 ∷ 20 ∷ 21 ∷ 22 ∷ 23 ∷ 24 ∷ []
+word_row (append word) = 0 ∷ 1 ∷ []
+word_row (submit c) = 0 ∷ 20 ∷ 33 ∷ 40 ∷ 41 ∷ []
+word_row picture = 0 ∷ 20 ∷ 24 ∷ []
+word_row offscreen = 0 ∷ 20 ∷ 30 ∷ []
+word_row fence = 0 ∷ 20 ∷ 30 ∷ []
+word_row (passed number) = 0 ∷ 20 ∷ 30 ∷ []
+word_row (lend l output) = 0 ∷ []
 
 -- ---- what may change
 
@@ -41,7 +41,7 @@ Lends (lend l output) h = Unit {0}
 -- A refusal: a number in the call's row, with nothing changed and its values 0
 pub record Away (c : Call) (h : Host) (o : WordOutcome) : Type 0 where
   pub high : 20 ≤ o.answer
-  pub in_row : among o.answer (wordRow c) ≡ true
+  pub in_row : among o.answer (word_row c) ≡ true
   pub same : o.host ≡ h
   pub silent : (i : ℕ) → get_or o.values i 0 ≡ 0
 
@@ -77,13 +77,13 @@ EdgesStay (lend l output) before after = after ≡ before
 
 -- One call, with the outcome o.
 pub record SafeWords (c : Call) (h : Host) (o : WordOutcome) : Type 0 where
-  pub answered : among o.answer (wordRow c) ≡ true
+  pub answered : among o.answer (word_row c) ≡ true
   -- a refused call leaves every lent word, and its values are 0
   pub refused : 20 ≤ o.answer → o.host ≡ h
-  pub refused-values : 20 ≤ o.answer → (i : ℕ) → get_or o.values i 0 ≡ 0
+  pub refused_values : 20 ≤ o.answer → (i : ℕ) → get_or o.values i 0 ≡ 0
   -- one that is lent what it asks changes of the device and the memories only what it may, and any other is refused
-  pub lent : Lends c h → OnlyNamed c (worldIn h) (asCall o)
-  pub not-lent : (Lends c h → ⊥) → 20 ≤ o.answer
+  pub lent : Lends c h → OnlyNamed c (world_in h) (as_call o)
+  pub not_lent : (Lends c h → ⊥) → 20 ≤ o.answer
   -- words that hold a device hold one afterwards
   pub held : HoldsDevice h → HoldsDevice o.host
   pub device : DeviceStays c h.device o.host.device
@@ -92,7 +92,7 @@ pub record SafeWords (c : Call) (h : Host) (o : WordOutcome) : Type 0 where
   pub words : WordHost o.host
 
 abbrev pub SafeStep : HostStep → Host → Type 0
-SafeStep (call c) h = SafeWords c h (performWords c h)
+SafeStep (call c) h = SafeWords c h (perform_words c h)
 SafeStep (put device edges) h = Unit {0}
 
 -- Steps in a row, each on what the last one left.

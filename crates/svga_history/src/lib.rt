@@ -1,6 +1,6 @@
 // Every call of the library for C and Rust as one history on lent words. The theorems are in proofs/; here is what a host does with a packed result.
 ghost use Rattle.std.specs.Prelude.{◌≡◌};
-ghost use Rattle.svga_history.specs.WordCalls.{answer_in, valueIn};
+ghost use Rattle.svga_history.specs.WordCalls.{answer_in, value_in};
 
 // The answer of a packed result: its high half.
 // Rules out: the value for the answer; an answer with bits of the value.
@@ -13,7 +13,7 @@ pub fn answer_of(res: u64) -> u32
 // The value of a packed result: its low half.
 // Rules out: the answer for the value; a value of 31 bits.
 pub fn value_of(res: u64) -> u32
-    ensures { result ≡ valueIn res }
+    ensures { result ≡ value_in res }
 {
     (res % 4294967296) as u32
 }

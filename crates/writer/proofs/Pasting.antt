@@ -17,20 +17,20 @@ module _ (ring : List ℕ) (at : ℕ) (row : List ℕ) (from : ℕ) where
   stored (suc k) = set (stored k) (at + suc k) (get_or row (from + suc k) 0)
 
   -- they are a copy
-  pub stored-paste : (k : ℕ) → at + k < length ring → from + k < length row → stored k ≡ paste ring at (drop from row) (k + 1)
-  stored-paste zero there some =
+  pub stored_paste : (k : ℕ) → at + k < length ring → from + k < length row → stored k ≡ paste ring at (drop from row) (k + 1)
+  stored_paste zero there some =
       ap (λ r. set r at (get_or row from 0)) (paste-zero ring at (drop from row))
       ∙ ap₂ (λ p q. set (paste ring at (drop from row) 0) p (get_or row q 0)) (sym (add-zero at)) (sym (add-zero from))
       ∙ copy_more ring at row from 0 (omega arith) (omega arith)
-  stored-paste (suc k) there some =
+  stored_paste (suc k) there some =
       ap (λ r. set r (at + suc k) (get_or row (from + suc k) 0))
-      (stored-paste k (omega arith) (omega arith) ∙ ap (paste ring at (drop from row)) (add-one k))
+      (stored_paste k (omega arith) (omega arith) ∙ ap (paste ring at (drop from row)) (add-one k))
       ∙ copy_more ring at row from (suc k) (omega arith) (omega arith)
 
 -- the first k words and then the k words from word a on, which begin among the first or behind them
-pub paste-paste : (ring : List ℕ) (at : ℕ) (w : List ℕ) (k a : ℕ) → a ≤ k → k ≤ length w → at ≤ length ring
+pub paste_paste : (ring : List ℕ) (at : ℕ) (w : List ℕ) (k a : ℕ) → a ≤ k → k ≤ length w → at ≤ length ring
     → paste (paste ring at w k) (at + a) (drop a w) k ≡ paste ring at w (a + k)
-paste-paste ring at w k a near some there =
+paste_paste ring at w k a near some there =
     let first : length (take at ring) ≡ at = length-take-le at ring there in
     let front : take (at + a) (paste ring at w k) ≡ take at ring ++ take a w =
     sym (take-take (at + a) (at + k) (paste ring at w k) (omega arith))

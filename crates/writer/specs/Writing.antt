@@ -4,10 +4,10 @@ use Rattle.std.proofs.Math.Option.{Option, none, some}
 use Rattle.geometry.specs.Pixels.{tabulate}
 use Rattle.command.specs.declared.Data.{Data}
 use Rattle.command.specs.declared.Data.TheVariants as D
-use Rattle.command.specs.Commands.{entry, sizeBy, kindIn, shape_at}
+use Rattle.command.specs.Commands.{entry, size_by, kind_in, shape_at}
 use Rattle.command.specs.Findings.{data_of}
-use Rattle.ring.specs.Acceptance.{minOf, max_of, next_of, stopOf, usable}
-use Rattle.ring.specs.Append.{appendTo}
+use Rattle.ring.specs.Acceptance.{min_of, max_of, next_of, stop_of, usable}
+use Rattle.ring.specs.Append.{append_to}
 use Rattle.ring.specs.Waiting.{between, carried}
 use Rattle.writer.specs.declared.WriterAnswer.{WriterAnswer}
 use Rattle.writer.specs.declared.WriterAnswer.TheVariants.{Taken, LentLength, RingRefused, NoRoom, NotACommand}
@@ -24,72 +24,72 @@ command head pixels bytes = record { head = head; pixels = pixels; bytes = bytes
 -- ---- a command's words
 
 -- "ESCAPE data being bytes, lowest first in each word, its padding zero": the word of the four bytes from byte k on, 0 where there are no more.
-abbrev pub wordFrom : List ℕ → ℕ → ℕ
-wordFrom bytes k = get_or bytes k 0 + 256 * get_or bytes (k + 1) 0 + 65536 * get_or bytes (k + 2) 0 + 16777216 * get_or bytes (k + 3) 0
+abbrev pub word_from : List ℕ → ℕ → ℕ
+word_from bytes k = get_or bytes k 0 + 256 * get_or bytes (k + 1) 0 + 65536 * get_or bytes (k + 2) 0 + 16777216 * get_or bytes (k + 3) 0
 
 -- "ceil(size/4)" words of data
-unfoldable pub dataWords : List ℕ → List ℕ
-dataWords bytes = tabulate ((length bytes + 3) / 4) (λ i. wordFrom bytes (4 * i))
+unfoldable pub data_words : List ℕ → List ℕ
+data_words bytes = tabulate ((length bytes + 3) / 4) (λ i. word_from bytes (4 * i))
 
 -- "all its words": the head, and behind it the pixels or the data.
-unfoldable pub commandWords : Command → List ℕ
-commandWords c = c.head ++ (c.pixels ++ dataWords c.bytes)
+unfoldable pub command_words : Command → List ℕ
+command_words c = c.head ++ (c.pixels ++ data_words c.bytes)
 
 -- ---- refusals
 
 -- "what the head says (none where no head asks for them)": w·h pixels for a cursor, size bytes for an escape.
-abbrev pub pixelsAsked : Option Data → List ℕ → ℕ
-pixelsAsked none head = 0
-pixelsAsked (some D.Cursor) head = (shape_at head 1).w * (shape_at head 1).h
-pixelsAsked (some D.Escape) head = 0
+abbrev pub pixels_asked : Option Data → List ℕ → ℕ
+pixels_asked none head = 0
+pixels_asked (some D.Cursor) head = (shape_at head 1).w * (shape_at head 1).h
+pixels_asked (some D.Escape) head = 0
 
-abbrev pub bytesAsked : Option Data → List ℕ → ℕ
-bytesAsked none head = 0
-bytesAsked (some D.Cursor) head = 0
-bytesAsked (some D.Escape) head = get_or head 2 0
+abbrev pub bytes_asked : Option Data → List ℕ → ℕ
+bytes_asked none head = 0
+bytes_asked (some D.Cursor) head = 0
+bytes_asked (some D.Escape) head = get_or head 2 0
 
 -- "20 if the lent pixels or data don't number what the head says"
-unfoldable pub lentGood : Command → Bool
-lentGood c =
-    let behind = data_of (kindIn c.head) in
-    eqb (length c.pixels) (pixelsAsked behind c.head) && eqb (length c.bytes) (bytesAsked behind c.head)
+unfoldable pub lent_good : Command → Bool
+lent_good c =
+    let behind = data_of (kind_in c.head) in
+    eqb (length c.pixels) (pixels_asked behind c.head) && eqb (length c.bytes) (bytes_asked behind c.head)
 
 -- "41 if the number isn't in document 01's command table or the device would fault with 11 or 12": the checks of a turn on these words, with as many
 -- behind them as they ask for, in a ring that carries cap words. A number of arguments that is not the command's is 41 too, and so is no word at all.
-unfoldable pub isCommand : ℕ → List ℕ → Bool
-isCommand cap head =
-    let row = entry (kindIn head) in
-    row.offered && (eqb (length head) row.head && (row.headGood head && (leb (sizeBy (kindIn head) head) cap && row.good tt head)))
+unfoldable pub is_command : ℕ → List ℕ → Bool
+is_command cap head =
+    let row = entry (kind_in head) in
+    row.offered && (eqb (length head) row.head && (row.head_good head && (leb (size_by (kind_in head) head) cap && row.good tt head)))
 
 -- The number of words that the ring of these ring words carries: from MIN to below MAX, "never filling the last word", one fewer than it holds.
-abbrev pub carriedIn : List ℕ → ℕ
-carriedIn ring = carried (minOf ring / 4) (max_of ring / 4)
+abbrev pub carried_in : List ℕ → ℕ
+carried_in ring = carried (min_of ring / 4) (max_of ring / 4)
 
 -- "free words now": those that the ring carries, less those that wait, "reading STOP from ring word 3".
-unfoldable pub freeWords : List ℕ → ℕ
-freeWords ring = carriedIn ring - between (minOf ring / 4) (max_of ring / 4) (stopOf ring / 4) (next_of ring / 4)
+unfoldable pub free_words : List ℕ → ℕ
+free_words ring = carried_in ring - between (min_of ring / 4) (max_of ring / 4) (stop_of ring / 4) (next_of ring / 4)
 
 -- ---- the write
 
 -- "by the published rule": document 01's append, word after word.
-unfoldable pub appendAll : List ℕ → List ℕ → List ℕ
-appendAll ring [] = ring
-appendAll ring (x ∷ w) = appendAll (appendTo ring x) w
+unfoldable pub append_all : List ℕ → List ℕ → List ℕ
+append_all ring [] = ring
+append_all ring (x ∷ w) = append_all (append_to ring x) w
 
 -- A write answers a number and leaves the ring memory.
 pub record Written : Type 0 where
   pub answer : ℕ
   pub ring : List ℕ
 
-abbrev pub writerNumber : WriterAnswer → ℕ
-writerNumber Taken = 0
-writerNumber LentLength = 20
-writerNumber RingRefused = 33
-writerNumber NoRoom = 40
-writerNumber NotACommand = 41
+abbrev pub writer_number : WriterAnswer → ℕ
+writer_number Taken = 0
+writer_number LentLength = 20
+writer_number RingRefused = 33
+writer_number NoRoom = 40
+writer_number NotACommand = 41
 
 abbrev pub written : WriterAnswer → List ℕ → Written
-written a ring = record { answer = writerNumber a; ring = ring }
+written a ring = record { answer = writer_number a; ring = ring }
 
 -- where the test fails it is refused so, "nothing written"; else what follows
 abbrev pub unless : Bool → WriterAnswer → List ℕ → Written → Written
@@ -97,10 +97,10 @@ unless test a ring follows = cond test follows (written a ring)
 
 -- "33 if the ring words are missing or unusable by document 01's rule, M being four times the lent words; 41 ..; 20 ..; 40 exactly if the command could
 -- fit the ring but there are too few free words now; in that order, nothing written."
-unfoldable pub writeOf : List ℕ → Command → Written
-writeOf ring c =
+unfoldable pub write_of : List ℕ → Command → Written
+write_of ring c =
     unless (usable ring) RingRefused ring
-    (unless (isCommand (carriedIn ring) c.head) NotACommand ring
-    (unless (lentGood c) LentLength ring
-    (unless (leb (length (commandWords c)) (freeWords ring)) NoRoom ring
-    (written Taken (appendAll ring (commandWords c))))))
+    (unless (is_command (carried_in ring) c.head) NotACommand ring
+    (unless (lent_good c) LentLength ring
+    (unless (leb (length (command_words c)) (free_words ring)) NoRoom ring
+    (written Taken (append_all ring (command_words c))))))

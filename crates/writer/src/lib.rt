@@ -2,12 +2,12 @@
 ghost use Rattle.std.specs.Prelude.{◌≡◌, true, cond, not, ◌&&◌, ◌++◌, eqb, leb, ℕ, ◌+◌, ◌*◌, ◌/◌, ◌≤◌, ◌<◌, length, get_or, set, drop};
 ghost use Rattle.std.proofs.Math.Seq.{paste};
 ghost use Rattle.command.specs.declared.Kind.TheVariants.{DefineAlphaCursor, Escape};
-ghost use Rattle.command.specs.Commands.{entry, kindIn};
-ghost use Rattle.command.specs.Findings.{kindWith};
-ghost use Rattle.cursor.specs.Plane.{imageWords};
-ghost use Rattle.ring.specs.Acceptance.{minOf, max_of, next_of, usable};
+ghost use Rattle.command.specs.Commands.{entry, kind_in};
+ghost use Rattle.command.specs.Findings.{kind_with};
+ghost use Rattle.cursor.specs.Plane.{image_words};
+ghost use Rattle.ring.specs.Acceptance.{min_of, max_of, next_of, usable};
 ghost use Rattle.ring.specs.Waiting.{after, ahead, words};
-ghost use Rattle.writer.specs.Writing.{command, commandWords, wordFrom, dataWords, freeWords, writerNumber, written, writeOf};
+ghost use Rattle.writer.specs.Writing.{command, command_words, word_from, data_words, free_words, writer_number, written, write_of};
 ghost use Rattle.writer.specs.Laying.{laid, asked};
 
 use command::{Data, Finding, Kind};
@@ -23,7 +23,7 @@ pub enum WriterAnswer {
 
 // Rules out: 0 for a full ring; 33 and 41 exchanged.
 pub fn writer_number(answer: WriterAnswer) -> u32
-    ensures { result ≡ writerNumber answer }
+    ensures { result ≡ writer_number answer }
 {
     match answer {
         WriterAnswer::Taken => 0,
@@ -109,7 +109,7 @@ fn fence_asked(head: &[u32]) -> Asked
 
 // All words of a command with data behind its head, or 0 where the device faults: by its own turn, in a ring full of words.
 fn long_words(tail: Data, head: &[u32], carries: u64) -> u64
-    requires { (10 ≤ carries) × (kindIn head.now ≡ kindWith tail) × (length head.now ≡ (entry (kindWith tail)).head) }
+    requires { (10 ≤ carries) × (kind_in head.now ≡ kind_with tail) × (length head.now ≡ (entry (kind_with tail)).head) }
     ensures { result ≡ (asked carries head.now).words }
 {
     let finding = command::data_turn(tail, head, carries, carries);
@@ -120,7 +120,7 @@ fn long_words(tail: Data, head: &[u32], carries: u64) -> u64
 }
 
 fn cursor_asked(head: &[u32], carries: u64) -> Asked
-    requires { (10 ≤ carries) × (kindIn head.now ≡ DefineAlphaCursor) }
+    requires { (10 ≤ carries) × (kind_in head.now ≡ DefineAlphaCursor) }
     ensures { result ≡ asked carries head.now }
 {
     if head.len() != 6 {
@@ -138,7 +138,7 @@ fn cursor_asked(head: &[u32], carries: u64) -> Asked
 }
 
 fn escape_asked(head: &[u32], carries: u64) -> Asked
-    requires { (10 ≤ carries) × (kindIn head.now ≡ Escape) }
+    requires { (10 ≤ carries) × (kind_in head.now ≡ Escape) }
     ensures { result ≡ asked carries head.now }
 {
     if head.len() != 3 {
@@ -193,7 +193,7 @@ fn lay_span(to: &mut [u32], at: usize, row: &[u32], from: usize, n: usize)
 
 // The same into the ring, by way of a local line: it compiles to one memmove.
 fn lay_row(ring: &mut [u32], at: usize, row: &[u32], from: usize, n: usize)
-    requires { (n ≤ imageWords) × (from + n ≤ length row.now) × (at + n ≤ length ring.old) }
+    requires { (n ≤ image_words) × (from + n ≤ length row.now) × (at + n ≤ length ring.old) }
     ensures { ring.new ≡ paste ring.old at (drop from row.now) n }
 {
     let mut line = [0u32; 4096];
@@ -203,7 +203,7 @@ fn lay_row(ring: &mut [u32], at: usize, row: &[u32], from: usize, n: usize)
 
 // A row of words into the ring from word at on: up to its end, and from its begin on. Answers the place behind them.
 fn lay(ring: &mut [u32], lo: usize, hi: usize, at: usize, row: &[u32]) -> usize
-    requires { (lo ≤ at) × (at < hi) × (hi ≤ length ring.old) × (length row.now + lo < hi) × (length row.now ≤ imageWords) }
+    requires { (lo ≤ at) × (at < hi) × (hi ≤ length ring.old) × (length row.now + lo < hi) × (length row.now ≤ image_words) }
     ensures ring_after { ring.new ≡ laid lo hi at row.now ring.old }
     ensures value { result ≡ ahead lo hi at (length row.now) }
 {
@@ -231,7 +231,7 @@ fn byte_at(bytes: &[u8], i: usize) -> u32
 // Four bytes from byte k on, lowest first.
 fn word_from(bytes: &[u8], k: usize) -> u32
     requires { k ≤ 4294967296 }
-    ensures { result ≡ wordFrom bytes.now k }
+    ensures { result ≡ word_from bytes.now k }
 {
     let low = byte_at(bytes, k) + 256 * byte_at(bytes, k + 1);
     let high = byte_at(bytes, k + 2) + 256 * byte_at(bytes, k + 3);
@@ -251,9 +251,9 @@ fn after(lo: usize, hi: usize, p: usize) -> usize
 
 // Data as words, into the ring from word at on. Answers the place behind them.
 fn lay_data(ring: &mut [u32], lo: usize, hi: usize, at: usize, bytes: &[u8]) -> usize
-    requires { (lo ≤ at) × (at < hi) × (hi ≤ length ring.old) × (length (dataWords bytes.now) + lo < hi) × (length bytes.now ≤ 4294967295) }
-    ensures ring_after { ring.new ≡ laid lo hi at (dataWords bytes.now) ring.old }
-    ensures value { result ≡ ahead lo hi at (length (dataWords bytes.now)) }
+    requires { (lo ≤ at) × (at < hi) × (hi ≤ length ring.old) × (length (data_words bytes.now) + lo < hi) × (length bytes.now ≤ 4294967295) }
+    ensures ring_after { ring.new ≡ laid lo hi at (data_words bytes.now) ring.old }
+    ensures value { result ≡ ahead lo hi at (length (data_words bytes.now)) }
 {
     let n = (bytes.len() + 3) / 4;
     let mut p = at;
@@ -323,9 +323,9 @@ fn put_rest(
     bytes: &[u8],
 ) -> usize
     requires { (lo ≤ at) × (at < hi) × (hi ≤ length ring.old) × (length bytes.now ≤ 4294967295)
-        × (length (pixels.now ++ dataWords bytes.now) + lo < hi) × (length pixels.now ≤ imageWords) }
-    ensures ring_after { ring.new ≡ laid lo hi at (pixels.now ++ dataWords bytes.now) ring.old }
-    ensures value { result ≡ ahead lo hi at (length (pixels.now ++ dataWords bytes.now)) }
+        × (length (pixels.now ++ data_words bytes.now) + lo < hi) × (length pixels.now ≤ image_words) }
+    ensures ring_after { ring.new ≡ laid lo hi at (pixels.now ++ data_words bytes.now) ring.old }
+    ensures value { result ≡ ahead lo hi at (length (pixels.now ++ data_words bytes.now)) }
 {
     let last = lay(ring, lo, hi, at, pixels);
     lay_data(ring, lo, hi, last, bytes)
@@ -342,11 +342,11 @@ fn put_words(
     bytes: &[u8],
 ) -> usize
     requires le_lo { (4 ≤ lo) × (lo ≤ at) × (at < hi) × (hi ≤ length ring.old) × (length bytes.now ≤ 4294967295) }
-    requires in_bounds { (2 ≤ length head.now) × (length head.now ≤ 8) × (length pixels.now ≤ imageWords)
-        × (length (commandWords (command head.now pixels.now bytes.now)) + lo < hi) }
+    requires in_bounds { (2 ≤ length head.now) × (length head.now ≤ 8) × (length pixels.now ≤ image_words)
+        × (length (command_words (command head.now pixels.now bytes.now)) + lo < hi) }
     ensures ring_after { ring.new
-        ≡ laid lo hi at (commandWords (command head.now pixels.now bytes.now)) ring.old }
-    ensures value { result ≡ ahead lo hi at (length (commandWords (command head.now pixels.now bytes.now))) }
+        ≡ laid lo hi at (command_words (command head.now pixels.now bytes.now)) ring.old }
+    ensures value { result ≡ ahead lo hi at (length (command_words (command head.now pixels.now bytes.now))) }
     ensures by_index { (i : ℕ) → i < 4 → get_or ring.new i 0 ≡ get_or ring.old i 0 }
 {
     let behind = put_head(ring, lo, hi, at, head);
@@ -380,8 +380,8 @@ struct Room {
 
 fn room_in(ring: &[u32]) -> Room
     requires { usable ring.now ≡ true }
-    ensures { (result.lo ≡ minOf ring.now / 4) × (result.hi ≡ max_of ring.now / 4)
-        × (result.next ≡ next_of ring.now / 4) × (result.free ≡ freeWords ring.now) }
+    ensures { (result.lo ≡ min_of ring.now / 4) × (result.hi ≡ max_of ring.now / 4)
+        × (result.next ≡ next_of ring.now / 4) × (result.free ≡ free_words ring.now) }
 {
     let lo = (ring[0] / 4) as usize;
     let hi = (ring[1] / 4) as usize;
@@ -417,7 +417,7 @@ fn lent_good(a: Asked, pixels: usize, bytes: usize) -> bool
 // Rules out: a ring filled to its last word; a command whose last words are missing; a word stored by a write that is refused; NEXT_CMD moved on to MAX.
 pub fn write(ring: &mut [u32], head: &[u32], pixels: &[u32], bytes: &[u8]) -> WriterAnswer
     ensures { written result ring.new
-        ≡ writeOf ring.old (command head.now pixels.now bytes.now) }
+        ≡ write_of ring.old (command head.now pixels.now bytes.now) }
 {
     let good = ring::is_usable(ring);
     if !good {

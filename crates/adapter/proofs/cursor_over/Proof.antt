@@ -1,12 +1,12 @@
 -- `adapter::cursor_over` meets its contract.
 -- Assumes nothing.
 use Rattle.std.proofs.Common.{rules, eq-eqb, ne_eqb}
-use Rattle.adapter.specs.Picture.{cursorOver}
+use Rattle.adapter.specs.Picture.{cursor_over}
 use Rattle.adapter.proofs.cursor_over.Statement.{statement}
 use Rattle.adapter.proofs.cursor_over.Tie as tie
 
 pub cursor-over-spec : {M : Type 1} → statement M
-unfolding cursorOver
+unfolding cursor_over
 cursor-over-spec =
     tie.close
     (tie.spec

@@ -1,12 +1,12 @@
 -- `adapter::lengths_good` meets its contract.
 -- Assumes nothing.
 use Rattle.std.proofs.Common.{eq-eqb, ne_eqb}
-use Rattle.adapter.specs.Picture.{lengthsGood}
+use Rattle.adapter.specs.Picture.{lengths_good}
 use Rattle.adapter.proofs.lengths_good.Statement.{statement}
 use Rattle.adapter.proofs.lengths_good.Tie as tie
 
 pub lengths-good-spec : {M : Type 1} → statement M
-unfolding lengthsGood
+unfolding lengths_good
 lengths-good-spec =
     tie.close
     (tie.spec

@@ -5,7 +5,7 @@ use native.Mathlib.Omega.{arith}
 use borrow.Author.Rules.{rules}
 use Rattle.command.specs.Findings.{findings}
 use Rattle.command.proofs.Begun.{length-begun}
-use Rattle.command.proofs.Rules.{turn-none}
+use Rattle.command.proofs.Rules.{turn_none}
 use Rattle.command.proofs.data_turn.Statement.{statement}
 use Rattle.command.proofs.data_turn.Tie as tie
 
@@ -13,7 +13,7 @@ pub data-turn-spec : {M : Type 1} → statement M
 data-turn-spec =
     tie.close
     (tie.spec
-    (λ c. sym (turn-none _ (findings tt) _ _ (length-begun _ _ _ ∙ c.if1.true)))
+    (λ c. sym (turn_none _ (findings tt) _ _ (length-begun _ _ _ ∙ c.if1.true)))
     (λ c. search rules)
     (λ c κs. omega arith)
     (λ c. search rules)

@@ -6,7 +6,7 @@ use borrow.Author.Rules.{rules}
 use borrow.Author.Tests.{eq-eqb, ne_eqb}
 use Rattle.command.specs.declared.Kind.TheVariants.{Fence}
 use Rattle.command.specs.Commands.{entry}
-use Rattle.command.proofs.Steps.{step-short, step-bad, step-does}
+use Rattle.command.proofs.Steps.{step_short, step_bad, step_does}
 use Rattle.command.proofs.fence_in.Statement.{statement}
 use Rattle.command.proofs.fence_in.Tie as tie
 
@@ -19,11 +19,11 @@ unfolding entry
 fence-in-spec =
     tie.close
     (tie.spec
-    (λ c. sym (step-short tt c.before.args.row.now Fence c.before.requires refl refl c.if1.true))
+    (λ c. sym (step_short tt c.before.args.row.now Fence c.before.requires refl refl c.if1.true))
     (λ c. search rules)
     (λ c.
     let b = both c.before in
-    sym (step-bad tt b.before.args.row.now Fence b.before.pre refl refl 2 refl b.if1.left (ap not (eq-eqb _ _ c.if2.true))))
+    sym (step_bad tt b.before.args.row.now Fence b.before.pre refl refl 2 refl b.if1.left (ap not (eq-eqb _ _ c.if2.true))))
     (λ c.
     let b = both c.before in
-    sym (step-does tt b.before.args.row.now Fence b.before.pre refl refl 2 refl b.if1.left (ap not (ne_eqb _ _ c.if2.false)))))
+    sym (step_does tt b.before.args.row.now Fence b.before.pre refl refl 2 refl b.if1.left (ap not (ne_eqb _ _ c.if2.false)))))

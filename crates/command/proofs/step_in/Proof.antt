@@ -6,7 +6,7 @@ use native.Mathlib.Omega.{arith}
 use Rattle.command.specs.declared.Kind.TheVariants.{Foreign}
 use Rattle.command.specs.declared.Data.TheVariants.{Cursor, Escape}
 use Rattle.command.specs.Commands.{entry}
-use Rattle.command.proofs.Steps.{step-none, step-long, step-foreign}
+use Rattle.command.proofs.Steps.{step_none, step_long, step_foreign}
 use Rattle.command.proofs.step_in.Statement.{statement}
 use Rattle.command.proofs.step_in.Tie as tie
 
@@ -15,7 +15,7 @@ unfolding entry
 step-in-spec =
     tie.close
     (tie.spec
-    (λ c. sym (step-none tt c.before.before.args.row.now c.if1.true))
+    (λ c. sym (step_none tt c.before.before.args.row.now c.if1.true))
     (λ c. search rules)
     (λ c κs. search rules)
     (λ c. search rules)
@@ -40,8 +40,8 @@ step-in-spec =
     (λ c. search rules)
     (λ c. search rules)
     (λ c. search rules)
-    (λ c. let k = sym c.before.before.kind-of.ensures ∙ c.enum-told6.given.1 in sym (step-long tt _ Cursor (rw k)))
+    (λ c. let k = sym c.before.before.kind-of.ensures ∙ c.enum-told6.given.1 in sym (step_long tt _ Cursor (rw k)))
     (λ c. search rules)
     (λ c. search rules)
-    (λ c. let k = sym c.before.before.kind-of.ensures ∙ c.enum-told9.given.1 in sym (step-long tt _ Escape (rw k)))
-    (λ c. sym (step-foreign tt _ Foreign (sym c.before.before.kind-of.ensures ∙ c.enum-told10.given.1) refl (omega arith) refl)))
+    (λ c. let k = sym c.before.before.kind-of.ensures ∙ c.enum-told9.given.1 in sym (step_long tt _ Escape (rw k)))
+    (λ c. sym (step_foreign tt _ Foreign (sym c.before.before.kind-of.ensures ∙ c.enum-told10.given.1) refl (omega arith) refl)))

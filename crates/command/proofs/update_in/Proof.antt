@@ -4,7 +4,7 @@ use mathlib.Core.Path.{refl, sym}
 use borrow.Author.Rules.{rules}
 use Rattle.command.specs.declared.Kind.TheVariants.{Update}
 use Rattle.command.specs.Commands.{entry}
-use Rattle.command.proofs.Steps.{step-short, step-does}
+use Rattle.command.proofs.Steps.{step_short, step_does}
 use Rattle.command.proofs.update_in.Statement.{statement}
 use Rattle.command.proofs.update_in.Tie as tie
 
@@ -13,6 +13,6 @@ unfolding entry
 update-in-spec =
     tie.close
     (tie.spec
-    (λ c. sym (step-short tt c.before.before.args.row.now Update c.before.before.requires refl refl c.if1.true))
+    (λ c. sym (step_short tt c.before.before.args.row.now Update c.before.before.requires refl refl c.if1.true))
     (λ c κs. search rules)
-    (λ c. rw c.rect-at.ensures (sym (step-does tt c.before.before.before.args.row.now Update c.before.before.before.requires refl refl 5 refl c.before.if1.false refl))))
+    (λ c. rw c.rect-at.ensures (sym (step_does tt c.before.before.before.args.row.now Update c.before.before.before.requires refl refl 5 refl c.before.if1.false refl))))

@@ -4,7 +4,7 @@ use mathlib.Core.Path.{ap}
 use native.Mathlib.Omega.{arith}
 use borrow.Author.Rules.{rules}
 use Rattle.console_session.specs.Session.{State}
-use Rattle.console_session.proofs.Feeding.{within-fits}
+use Rattle.console_session.proofs.Feeding.{within_fits}
 use Rattle.console.proofs.end.Statement.{statement}
 use Rattle.console.proofs.end.Tie as tie
 
@@ -23,7 +23,7 @@ returns : tie.Need-returns
 returns c =
     let finished = at-finish c.before in
     let finish = finished.finish.ensures in
-    let fits = within-fits _ _ _ _ (start finished).pre in
+    let fits = within_fits _ _ _ _ (start finished).pre in
     (ap (λ (t : State). t.console.lent) (rw fits at finish.0), rw fits at finish.1.0.out.bytes)
 
 pub end-spec : {M : Type 1} → statement M

@@ -5,7 +5,7 @@ use lib.ListN.{length}
 use borrow.Author.Rules.{rules}
 use Rattle.device_run.specs.Run.{lent}
 use Rattle.console_session.specs.Session.{state_of, Within, Served}
-use Rattle.console.proofs.Turning.{within_same, served-none, served-more}
+use Rattle.console.proofs.Turning.{within_same, served_none, served_more}
 use Rattle.console.proofs.serve.Statement.{statement}
 use Rattle.console.proofs.serve.Tie as tie
 
@@ -32,7 +32,7 @@ abbrev at_turn : tie.After-session invariant-loop decreases-loop → tie.After-t
 at_turn c = c.before.before.before.before.before.before.before.before.before.before.before.before.before.before.before
 
 loop-holds : tie.Need-loop-init invariant-loop decreases-loop
-loop-holds c = (served-none _, ((start c).requires, search rules))
+loop-holds c = (served_none _, ((start c).requires, search rules))
 
 turn-requires : tie.Need-turn-requires invariant-loop decreases-loop
 turn-requires c κs =
@@ -46,7 +46,7 @@ loop-again c =
     let k = turn.turn.kept.1 in
     let inv = (in-loop turn.before).before.loop.inv in
     let lengths = inv.1.1 in (
-      served-more _ inv.0 turn.turn.ensures.0,
+      served_more _ inv.0 turn.turn.ensures.0,
       (
         within_same lengths.0 lengths.1.0 lengths.1.1.1.1.1.1 turn.turn.ensures.1,
         (k.0 ∙ lengths.0, (k.1.0 ∙ lengths.1.0, (k.1.1.0 ∙ lengths.1.1.0, (k.1.1.1.0 ∙ lengths.1.1.1.0, (k.1.1.1.1.0 ∙ lengths.1.1.1.1.0, (k.1.1.1.1.1.0 ∙ lengths.1.1.1.1.1.0, k.1.1.1.1.1.1.0 ∙ lengths.1.1.1.1.1.1)))))),
@@ -59,7 +59,7 @@ loop-again-2 c =
     let k = turn.turn.kept.1 in
     let inv = (in-loop turn.before).before.loop.inv in
     let lengths = inv.1.1 in (
-      served-more _ inv.0 turn.turn.ensures.0,
+      served_more _ inv.0 turn.turn.ensures.0,
       (
         within_same lengths.0 lengths.1.0 lengths.1.1.1.1.1.1 turn.turn.ensures.1,
         (k.0 ∙ lengths.0, (k.1.0 ∙ lengths.1.0, (k.1.1.0 ∙ lengths.1.1.0, (k.1.1.1.0 ∙ lengths.1.1.1.0, (k.1.1.1.1.0 ∙ lengths.1.1.1.1.0, (k.1.1.1.1.1.0 ∙ lengths.1.1.1.1.1.0, k.1.1.1.1.1.1.0 ∙ lengths.1.1.1.1.1.1)))))),

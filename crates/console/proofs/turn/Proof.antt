@@ -5,7 +5,7 @@ use native.Mathlib.Omega.{arith}
 use lib.ListN.{length}
 use borrow.Author.Rules.{rules}
 use Rattle.console_session.specs.Session.{State, flushed, Within}
-use Rattle.console.proofs.Turning.{chunk-within, fed-chunk}
+use Rattle.console.proofs.Turning.{chunk_within, fed_chunk}
 use Rattle.console.proofs.turn.Statement.{statement}
 use Rattle.console.proofs.turn.Tie as tie
 
@@ -23,7 +23,7 @@ write-out-requires : tie.Need-write-out-requires
 write-out-requires c κs =
     let fed = Fed c in
     let filled = Filled fed in
-    let room = chunk-within _ filled.fill.result filled.fill.kept.0 (Start filled).pre in
+    let room = chunk_within _ filled.fill.result filled.fill.kept.0 (Start filled).pre in
     omega (arith, (fed.feed.ensures.1.1 room).room, fed.feed.kept.1.1.1.1.1.1.1.0)
 
 same_length : tie.Need-same-length
@@ -34,9 +34,9 @@ returns c =
     let fed = Fed c.before.before.before in
     let filled = Filled fed in
     let start = Start filled in
-    let room = chunk-within _ filled.fill.result filled.fill.kept.0 start.pre in
+    let room = chunk_within _ filled.fill.result filled.fill.kept.0 start.pre in
     rw c.before.flush.ensures (
-      ap (λ (t : State). flushed t) (fed-chunk filled.fill.result _ room _ _ _ fed.feed.ensures.0),
+      ap (λ (t : State). flushed t) (fed_chunk filled.fill.result _ room _ _ _ fed.feed.ensures.0),
       record { whole = start.pre.whole; held = (fed.feed.ensures.1.1 room).held; room = omega (arith, start.pre.room) },
     )
 

@@ -6,7 +6,7 @@ use lib.ListN.{length}
 use borrow.Author.Rules.{rules}
 use borrow.Author.Tests.{le-leb, lt-leb}
 use Rattle.console_answers.specs.Put.{shown}
-use Rattle.console_answers.proofs.Putting.{put-none}
+use Rattle.console_answers.proofs.Putting.{put_none}
 use Rattle.console_answers.proofs.print.Statement.{statement}
 use Rattle.console_answers.proofs.print.Tie as tie
 
@@ -14,13 +14,13 @@ returns : tie.Need-returns
 unfolding shown
 returns c =
     let a = c.before.before.args in
-    let full : length a.out.now < a.at + 26 = omega arith in rw (lt-leb _ _ full) (put-none _ _)
+    let full : length a.out.now < a.at + 26 = omega arith in rw (lt-leb _ _ full) (put_none _ _)
 
 returns-2 : tie.Need-returns-2
 unfolding shown
 returns-2 c =
     let a = c.before.before.before.args in
-    let full : length a.out.now < a.at + 26 = omega arith in rw (lt-leb _ _ full) (put-none _ _)
+    let full : length a.out.now < a.at + 26 = omega arith in rw (lt-leb _ _ full) (put_none _ _)
 
 returns-3 : tie.Need-returns-3
 unfolding shown

@@ -2,7 +2,7 @@
 -- Assumes nothing.
 use borrow.Author.Rules.{rules}
 use Rattle.console_answers.specs.Text.{line_of, text_of}
-use Rattle.console_answers.proofs.Putting.{put-none, put_then}
+use Rattle.console_answers.proofs.Putting.{put_none, put_then}
 use Rattle.console_answers.proofs.put_answer.Statement.{statement}
 use Rattle.console_answers.proofs.put_answer.Tie as tie
 
@@ -35,7 +35,7 @@ returns-6 c = rw c.before.before.before.before.enum-told2.given.1 c.before.befor
 
 returns-7 : tie.Need-returns-7
 unfolding text_of line_of
-returns-7 c = rw c.enum-told3.given.1 (put-none _ _)
+returns-7 c = rw c.enum-told3.given.1 (put_none _ _)
 
 pub put-answer-spec : {M : Type 1} → statement M
 put-answer-spec =

@@ -2,7 +2,7 @@
 -- Assumes nothing.
 use native.Mathlib.Omega.{arith}
 use borrow.Author.Rules.{rules}
-use Rattle.console_answers.proofs.Decimal.{decimal-short}
+use Rattle.console_answers.proofs.Decimal.{decimal_short}
 use Rattle.console_answers.proofs.Putting.{put_then}
 use Rattle.console_answers.proofs.put_numbers.Statement.{statement}
 use Rattle.console_answers.proofs.put_numbers.Tie as tie
@@ -24,14 +24,14 @@ first-requires : tie.Need-put-number-requires
 first-requires c κs =
     let tab = c.before.before.before in
     let start = Start tab in
-    omega (arith, start.pre, tab.put.ensures.ends, tab.put.auto.0, decimal-short start.args.first)
+    omega (arith, start.pre, tab.put.ensures.ends, tab.put.auto.0, decimal_short start.args.first)
 
 tab-requires : tie.Need-put-requires-2
 tab-requires c κs =
     let first = c.before.before.before in
     let tab = Tab first in
     let start = Start tab in
-    omega (arith, start.pre, tab.put.ensures.ends, tab.put.kept.0, first.put-number.ensures.ends, first.put-number.auto.0, decimal-short start.args.first)
+    omega (arith, start.pre, tab.put.ensures.ends, tab.put.kept.0, first.put-number.ensures.ends, first.put-number.auto.0, decimal_short start.args.first)
 
 second-requires : tie.Need-put-number-requires-2
 second-requires c κs =
@@ -48,8 +48,8 @@ second-requires c κs =
       first.put-number.kept.0,
       tab-2.put2.ensures.ends,
       tab-2.put2.auto.0,
-      decimal-short start.args.first,
-      decimal-short start.args.second,
+      decimal_short start.args.first,
+      decimal_short start.args.second,
     )
 
 newline-requires : tie.Need-put-requires-3
@@ -70,8 +70,8 @@ newline-requires c κs =
       tab-2.put2.kept.0,
       second.put-number2.ensures.ends,
       second.put-number2.auto.0,
-      decimal-short start.args.first,
-      decimal-short start.args.second,
+      decimal_short start.args.first,
+      decimal_short start.args.second,
     )
 
 returns : tie.Need-returns

@@ -6,14 +6,14 @@ use borrow.Author.Rules.{rules}
 use borrow.Author.Tests.{eq-eqb, ne_eqb}
 use lib.Dec.{eqb}
 use lib.ListN.{get_or}
-use Rattle.console_lines.specs.Lines.{same, wordRun}
-use Rattle.console_lines.proofs.Words.{other_length, three-bytes}
+use Rattle.console_lines.specs.Lines.{same, word_run}
+use Rattle.console_lines.proofs.Words.{other_length, three_bytes}
 use Rattle.console_lines.proofs.is_run.Statement.{statement}
 use Rattle.console_lines.proofs.is_run.Tie as tie
 
 bytes : (c : tie.Else1)
-    → (let w = c.before.args.word.now in same w wordRun ≡ eqb (get_or w 0 0) 114 && (eqb (get_or w 1 0) 117 && eqb (get_or w 2 0) 110))
-bytes c = three-bytes c.before.args.word.now 114 117 110 c.if1.false
+    → (let w = c.before.args.word.now in same w word_run ≡ eqb (get_or w 0 0) 114 && (eqb (get_or w 1 0) 117 && eqb (get_or w 2 0) 110))
+bytes c = three_bytes c.before.args.word.now 114 117 110 c.if1.false
 
 returns-4 : tie.Need-returns-4
 returns-4 c =
@@ -22,7 +22,7 @@ returns-4 c =
 pub is-run-spec : {M : Type 1} → statement M
 is-run-spec =
     tie.close
-    (tie.spec (λ c. sym (other_length c.before.args.word.now wordRun c.if1.true)) (λ c. search rules)
+    (tie.spec (λ c. sym (other_length c.before.args.word.now word_run c.if1.true)) (λ c. search rules)
     (λ c. rw (bytes c.before.before, ne_eqb _ _ c.if2.true)) (λ c. search rules)
     (λ c. rw (bytes c.before.before.before.before, eq-eqb _ _ c.before.before.if2.false, ne_eqb _ _ c.if3.true)) (λ c. search rules)
     returns-4)

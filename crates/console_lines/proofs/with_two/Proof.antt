@@ -3,8 +3,8 @@
 use mathlib.Core.Path.{◌≡◌}
 use borrow.Author.Rules.{rules}
 use borrow.Author.Tests.{eq-eqb, ne_eqb, le-leb, lt-leb}
-use Rattle.console_lines.specs.Lines.{number_of, withTwo}
-use Rattle.console_lines.proofs.Words.{twoBy, two-by}
+use Rattle.console_lines.specs.Lines.{number_of, with_two}
+use Rattle.console_lines.proofs.Words.{two_by, two_by_lem}
 use Rattle.console_lines.proofs.with_two.Statement.{statement}
 use Rattle.console_lines.proofs.with_two.Tie as tie
 
@@ -12,20 +12,20 @@ by-letter : (c : tie.After-letter-of)
     → (let second = c.before.before in
     let first = second.before.before.before.before in
     let a = first.before.before.before.before.before.before.args in
-    withTwo a.word.now (number_of a.a.now) (number_of a.b.now)
-    ≡ twoBy c.letter-of.result first.m.given.0.0 second.n.given.0.0)
+    with_two a.word.now (number_of a.a.now) (number_of a.b.now)
+    ≡ two_by c.letter-of.result first.m.given.0.0 second.n.given.0.0)
 by-letter c =
     let second = c.before.before in
     let first = second.before.before.before.before in
-    two-by _ _ _ _ _ _ c.letter-of.ensures (rw first.m.given.1 at first.before.before.number_of_lem.ensures)
+    two_by_lem _ _ _ _ _ _ c.letter-of.ensures (rw first.m.given.1 at first.before.before.number_of_lem.ensures)
     (rw second.n.given.1 at second.before.before.number-of2.ensures)
 
 returns : tie.Need-returns
-unfolding withTwo
+unfolding with_two
 returns c = rw (← c.before.before.number_of_lem.ensures, c.enum_told.given.1)
 
 returns-2 : tie.Need-returns-2
-unfolding withTwo
+unfolding with_two
 returns-2 c =
     let first = c.before.before.before.before in
     rw (← first.before.before.number_of_lem.ensures, first.m.given.1, ← c.before.before.number-of2.ensures, c.enum-told2.given.1)

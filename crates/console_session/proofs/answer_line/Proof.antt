@@ -6,7 +6,7 @@ use native.Mathlib.Nat.{sub-zero}
 use native.Mathlib.Omega.{arith}
 use lib.ListN.{length}
 use borrow.Author.Rules.{rules}
-use Rattle.console_session.proofs.Holding.{line-answered, line-printed, shown-short}
+use Rattle.console_session.proofs.Holding.{line_answered, line_printed, shown_short}
 use Rattle.console_session.proofs.answer_line.Statement.{statement}
 use Rattle.console_session.proofs.answer_line.Tie as tie
 
@@ -29,13 +29,13 @@ returns c =
     let request = at-request performed in
     let a = (start request).args in
     let pre = (start request).pre in
-    let short = shown-short _ _ _ _ _ _ print in
+    let short = shown_short _ _ _ _ _ _ print in
     let asks = rw sub-zero at request.request-of.ensures in
     let does = performed.perform.ensures in
     let room : a.s.printed + 26 ≤ length a.out.now = omega (arith, pre.room) in (
-      line-answered _ a.line.now _ _ a.s.held _ _ _ _ asks does room print,
+      line_answered _ a.line.now _ _ a.s.held _ _ _ _ asks does room print,
       (
-        record { line = refl; out = line-printed _ a.line.now _ _ a.s.held _ _ _ _ asks does room print },
+        record { line = refl; out = line_printed _ a.line.now _ _ a.s.held _ _ _ _ asks does room print },
         (record { whole = pre.whole; held = omega arith; room = omega (arith, pre.room) }, short),
       ),
     )

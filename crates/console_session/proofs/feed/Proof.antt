@@ -3,8 +3,8 @@
 use mathlib.Core.Path.{refl, sym, ◌∙◌}
 use borrow.Author.Rules.{rules}
 use borrow.Author.Tests.{not-true, not-false}
-use Rattle.console_answers.proofs.Putting.{put-none}
-use Rattle.console_session.proofs.Feeding.{fits-within, within_none}
+use Rattle.console_answers.proofs.Putting.{put_none}
+use Rattle.console_session.proofs.Feeding.{fits_within, within_none}
 use Rattle.console_session.proofs.feed.Statement.{statement}
 use Rattle.console_session.proofs.feed.Tie as tie
 
@@ -12,14 +12,14 @@ returns : tie.Need-returns
 returns c =
     let good = c.before.room_for.ensures in
     let no = not-true c.before.room_for.result c.if1.true in
-    (rw (← good, no), (rw (← good, no) (record { line = refl; out = put-none _ _ }), λ w. within_none w))
+    (rw (← good, no), (rw (← good, no) (record { line = refl; out = put_none _ _ }), λ w. within_none w))
 
 abbrev has_room : tie.After-feed-bytes-arg6 → tie.Else1
 has_room c = c.before.before.before.before.before.before
 
 feed-bytes-requires : tie.Need-feed-bytes-requires
 feed-bytes-requires c κs =
-    let r = has_room c in fits-within _ _ _ _ (sym r.before.room_for.ensures ∙ not-false r.before.room_for.result r.if1.left)
+    let r = has_room c in fits_within _ _ _ _ (sym r.before.room_for.ensures ∙ not-false r.before.room_for.result r.if1.left)
 
 abbrev at-feed : tie.After-slice-known12 → tie.After-feed-bytes
 at-feed c = c.before.before.before.before.before.before.before.before.before.before.before.before

@@ -2,8 +2,8 @@
 -- Assumes nothing.
 use borrow.Author.Rules.{rules}
 use borrow.Author.Tests.{eq-eqb, ne_eqb}
-use Rattle.console_answers.proofs.Putting.{put-none}
-use Rattle.console_session.specs.Session.{fed, lineByte}
+use Rattle.console_answers.proofs.Putting.{put_none}
+use Rattle.console_session.specs.Session.{fed, line_byte}
 use Rattle.console_session.proofs.feed_byte.Statement.{statement}
 use Rattle.console_session.proofs.feed_byte.Tie as tie
 
@@ -14,17 +14,17 @@ abbrev at-newline : tie.After-answer-line → tie.Then1
 at-newline c = c.before.before.before.before.before.before.before
 
 returns : tie.Need-returns
-unfolding fed lineByte
+unfolding fed line_byte
 returns c =
     let e = (at-answer c).answer-line.ensures in
     let newline = eq-eqb _ 10 (at-newline (at-answer c)).if1.true in (rw newline e.0, (rw newline e.1.0, e.1.1))
 
 returns-2 : tie.Need-returns-2
-unfolding fed lineByte
+unfolding fed line_byte
 returns-2 c =
     let keep = c.before.before.before.keep.ensures in
     let other = ne_eqb _ 10 c.before.before.before.before.before.if1.false in
-    (rw (other, ← keep.0), (rw other (record { line = keep.1.0; out = put-none _ _ }), (search rules, search rules)))
+    (rw (other, ← keep.0), (rw other (record { line = keep.1.0; out = put_none _ _ }), (search rules, search rules)))
 
 pub feed-byte-spec : {M : Type 1} → statement M
 feed-byte-spec =

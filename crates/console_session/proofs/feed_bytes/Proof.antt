@@ -7,17 +7,17 @@ use lib.ListN.{length, take}
 use lib.Seq.{take_all}
 use borrow.Author.Rules.{rules}
 use Rattle.device_run.specs.Run.{lent}
-use Rattle.console_answers.proofs.Putting.{put-none, put_then}
-use Rattle.console_session.specs.Session.{state_of, fedAll, flushed, lineWith, lineFed, Buffers}
-use Rattle.console_session.proofs.Feeding.{Feeding, fed-one, text-one, line-one}
+use Rattle.console_answers.proofs.Putting.{put_none, put_then}
+use Rattle.console_session.specs.Session.{state_of, fed_all, flushed, line_with, line_fed, Buffers}
+use Rattle.console_session.proofs.Feeding.{Feeding, fed_one, text_one, line_one}
 use Rattle.console_session.proofs.feed_bytes.Statement.{statement}
 use Rattle.console_session.proofs.feed_bytes.Tie as tie
 
 abbrev invariant-loop : tie.invariant-loop
 invariant-loop chunk line₀ ring₀ framebuffer₀ screen₀ cursor₀ out₀ t₀ i₀ line ring framebuffer screen cursor out t i =
-    (state_of t line (lent ring framebuffer screen cursor) out ≡ fedAll (state_of t₀ line₀ (lent ring₀ framebuffer₀ screen₀ cursor₀) out₀) (take i chunk))
-    × (Buffers t₀ t line out₀ out (lineFed (lineWith t₀.held line₀) (take i chunk))
-    (fedAll (flushed (state_of t₀ line₀ (lent ring₀ framebuffer₀ screen₀ cursor₀) out₀)) (take i chunk)).printed
+    (state_of t line (lent ring framebuffer screen cursor) out ≡ fed_all (state_of t₀ line₀ (lent ring₀ framebuffer₀ screen₀ cursor₀) out₀) (take i chunk))
+    × (Buffers t₀ t line out₀ out (line_fed (line_with t₀.held line₀) (take i chunk))
+    (fed_all (flushed (state_of t₀ line₀ (lent ring₀ framebuffer₀ screen₀ cursor₀) out₀)) (take i chunk)).printed
     × (Feeding t₀ t i (length chunk)
     × ((length line ≡ length line₀)
     × ((length ring ≡ length ring₀)
@@ -38,8 +38,8 @@ abbrev at-feed : tie.After-slice-known12 invariant-loop decreases-loop → tie.A
 at-feed c = c.before.before.before.before.before.before.before.before.before.before.before.before
 
 loop-holds : tie.Need-loop-init invariant-loop decreases-loop
-unfolding fedAll lineFed
-loop-holds c = (refl, (record { line = refl; out = put-none _ _ }, search rules))
+unfolding fed_all line_fed
+loop-holds c = (refl, (record { line = refl; out = put_none _ _ }, search rules))
 
 feed-byte-requires : tie.Need-feed-byte-requires invariant-loop decreases-loop
 feed-byte-requires c κs =
@@ -57,11 +57,11 @@ loop-again c =
     let t = turn (at-feed c).before in
     let inv = t.before.loop.inv in
     let more = t.loop-test.taken in (
-      rw (fed-one _ _ _ more, ← inv.0) fed.0,
+      rw (fed_one _ _ _ more, ← inv.0) fed.0,
       (
         record {
-          line = rw (line-one _ _ _ more, ← inv.1.0.line) fed.1.0.line;
-          out = rw (text-one _ _ _ more, ← inv.0) (put_then inv.1.0.out fed.1.0.out);
+          line = rw (line_one _ _ _ more, ← inv.1.0.line) fed.1.0.line;
+          out = rw (text_one _ _ _ more, ← inv.0) (put_then inv.1.0.out fed.1.0.out);
         },
         search rules,
       ),

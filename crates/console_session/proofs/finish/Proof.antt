@@ -6,9 +6,9 @@ use native.Mathlib.Omega.{arith}
 use lib.ListN.{length, take, length-take}
 use borrow.Author.Rules.{rules}
 use borrow.Author.Tests.{not-true, not-false, le-leb, lt-leb}
-use Rattle.console_answers.proofs.Putting.{put-none}
+use Rattle.console_answers.proofs.Putting.{put_none}
 use Rattle.console_session.specs.Session.{ended}
-use Rattle.console_session.proofs.Feeding.{fits-within, within_none}
+use Rattle.console_session.proofs.Feeding.{fits_within, within_none}
 use Rattle.console_session.proofs.finish.Statement.{statement}
 use Rattle.console_session.proofs.finish.Tie as tie
 
@@ -16,7 +16,7 @@ returns : tie.Need-returns
 returns c =
     let good = c.before.room_for.ensures in
     let no = not-true c.before.room_for.result c.if1.true in
-    (rw (← good, no), (rw (← good, no) (record { line = refl; out = put-none _ _ }), λ w. within_none w))
+    (rw (← good, no), (rw (← good, no) (record { line = refl; out = put_none _ _ }), λ w. within_none w))
 
 abbrev start : tie.After-room-for → tie.Start
 start c = c.before.before.before.before.before.before.before
@@ -34,7 +34,7 @@ returns-2 c =
     let good = room.before.room_for.ensures in
     let so = not-false room.before.room_for.result room.if1.false in
     let none : a.s.held ≡ 0 = omega (arith, c.if2.true) in
-    (rw (← good, so, lt-leb 1 _ empty), (rw (← good, so, lt-leb 1 _ empty) (record { line = rw none; out = put-none _ _ }), λ w. within_none w))
+    (rw (← good, so, lt-leb 1 _ empty), (rw (← good, so, lt-leb 1 _ empty) (record { line = rw none; out = put_none _ _ }), λ w. within_none w))
 
 abbrev held-some : tie.After-answer-line-arg5 → tie.Else2
 held-some c = c.before.before.before.before.before
@@ -42,7 +42,7 @@ held-some c = c.before.before.before.before.before
 answer-line-requires : tie.Need-answer-line-requires
 answer-line-requires c κs =
     let room = has_room (held-some c) in
-    fits-within _ _ _ _ (sym room.before.room_for.ensures ∙ not-false room.before.room_for.result room.if1.left)
+    fits_within _ _ _ _ (sym room.before.room_for.ensures ∙ not-false room.before.room_for.result room.if1.left)
 
 abbrev at-answer : tie.After-slice-known10 → tie.After-answer-line
 at-answer c = c.before.before.before.before.before.before.before.before.before.before
@@ -56,7 +56,7 @@ returns-3 c =
     let a = (start room.before).args in
     let good = room.before.room_for.ensures in
     let so = not-false room.before.room_for.result room.if1.left in
-    let within = fits-within _ _ _ _ (sym good ∙ so) in
+    let within = fits_within _ _ _ _ (sym good ∙ so) in
     let some : 1 ≤ length (take a.s.held a.line.now) = omega (arith, past.if2.left, length-take a.s.held a.line.now) in
     (rw (← good, so, le-leb 1 _ some) answer.0, (rw (← good, so, le-leb 1 _ some) answer.1.0, λ w. answer.1.1.0))
 

@@ -5,7 +5,7 @@ use native.Mathlib.Omega.{arith}
 use borrow.Author.Rules.{rules}
 use borrow.Author.Tests.{eq-eqb, ne_eqb, le-leb, lt-leb}
 use Rattle.console_session.specs.Session.{fits}
-use Rattle.console_session.proofs.Feeding.{room-test}
+use Rattle.console_session.proofs.Feeding.{room_test}
 use Rattle.console_session.proofs.room_for.Statement.{statement}
 use Rattle.console_session.proofs.room_for.Tie as tie
 
@@ -27,7 +27,7 @@ returns-3 c =
 returns-4 : tie.Need-returns-4
 unfolding fits
 returns-4 c =
-    rw (eq-eqb _ 32 c.before.before.before.before.before.if1.false, le-leb _ 32 c.before.before.before.if2.false) (room-test _ _ _ c.before.if3.false)
+    rw (eq-eqb _ 32 c.before.before.before.before.before.if1.false, le-leb _ 32 c.before.before.before.if2.false) (room_test _ _ _ c.before.if3.false)
 
 pub room-for-spec : {M : Type 1} → statement M
 room-for-spec =

@@ -11,7 +11,7 @@ ran c = c.before.before.before.before.before.before
 
 returns : tie.Need-returns
 unfolding performed
-returns c = let number = c.before in let run = (ran number.before).run.ensures in rw (← run, number.run-number.ensures)
+returns c = let number = c.before in let run = (ran number.before).run.ensures in rw (← run, number.run_number_lem.ensures)
 
 pub run-device-spec : {M : Type 1} → statement M
 run-device-spec =

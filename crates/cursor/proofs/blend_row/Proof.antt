@@ -5,13 +5,13 @@ use mathlib.Core.List.{List}
 use Prim.Native.Nat.{ℕ, ◌-◌}
 use lib.ListN.{length, get_or}
 use borrow.Author.Rules.{rules}
-use Rattle.pixel.specs.Blend.{blendPixel}
-use Rattle.geometry.proofs.Tabulate.{Front, front-start, front_read, front-step, front-end}
+use Rattle.pixel.specs.Blend.{blend_pixel}
+use Rattle.geometry.proofs.Tabulate.{Front, front_start, front_read, front_step, front_end}
 use Rattle.cursor.proofs.blend_row.Statement.{statement}
 use Rattle.cursor.proofs.blend_row.Tie as tie
 
 abbrev new : List ℕ → List ℕ → ℕ → ℕ
-new pixels d i = blendPixel (get_or pixels i 0) (get_or d i 0)
+new pixels d i = blend_pixel (get_or pixels i 0) (get_or d i 0)
 
 abbrev invariant-loop : tie.invariant-loop
 invariant-loop row₀ pixels i₀ row i = Front (new pixels row₀) row₀ row i
@@ -20,18 +20,18 @@ abbrev decreases-loop : tie.decreases-loop
 decreases-loop row₀ pixels i₀ row i = length row₀ - i
 
 loop-holds : tie.Need-loop-init invariant-loop decreases-loop
-loop-holds c = front-start _ _
+loop-holds c = front_start _ _
 
 loop-again : tie.Need-loop-preserved invariant-loop decreases-loop
 loop-again c =
     let at-loop = c.before.before.before.before in
     let a = at-loop.before.before.before.args in
     let more = c.before.before.before.loop-test.true in
-    front-step at-loop.loop.invariant _ more
-    (c.blend.ensures ∙ ap (blendPixel (get_or a.pixels.now at-loop.loop.i 0)) (front_read at-loop.loop.invariant more))
+    front_step at-loop.loop.invariant _ more
+    (c.blend.ensures ∙ ap (blend_pixel (get_or a.pixels.now at-loop.loop.i 0)) (front_read at-loop.loop.invariant more))
 
 returns : tie.Need-returns invariant-loop decreases-loop
-returns c = front-end c.before.loop.invariant c.loop-test.false
+returns c = front_end c.before.loop.invariant c.loop-test.false
 
 pub blend-row-spec : {M : Type 1} → statement M
 blend-row-spec =

@@ -5,7 +5,7 @@ use native.Mathlib.Nat.{mul-le-mul_right}
 use native.Mathlib.Omega.{arith}
 use borrow.Author.Rules.{rules}
 use borrow.Author.Tests.{lt-ltb, le-ltb, le-leb, lt-leb}
-use Rattle.cursor.specs.Plane.{overlayFits}
+use Rattle.cursor.specs.Plane.{overlay_fits}
 use Rattle.cursor.proofs.overlay_fits.Statement.{statement}
 use Rattle.cursor.proofs.overlay_fits.Tie as tie
 
@@ -21,7 +21,7 @@ mul-result c =
     omega (arith, product a.shape.w a.shape.h (search rules) (search rules))
 
 pub overlay-fits-spec : {M : Type 1} → statement M
-unfolding overlayFits
+unfolding overlay_fits
 overlay-fits-spec =
     tie.close
     (tie.spec (λ c. rw (le-ltb 0 _ c.if1.true)) mul-if2 (λ c. rw (lt-ltb 0 _ c.before.if1.false, lt-leb _ _ c.if2.true)) (λ c. search rules)

@@ -6,16 +6,16 @@ use native.Mathlib.Omega.{arith}
 use lib.ListN.{length, get_or, length-take, length-drop}
 use borrow.Author.Rules.{rules}
 use Rattle.geometry.proofs.Rows.{row_room}
-use Rattle.geometry.proofs.Loops.{RowsDone, rows-begin, rows-turn, rows_end}
-use Rattle.pixel.specs.Blend.{blendPixel}
-use Rattle.cursor.specs.Spans.{span, overlaidVisible}
-use Rattle.cursor.proofs.Spans.{visiblePixel, row-visible}
+use Rattle.geometry.proofs.Loops.{RowsDone, rows_begin, rows_turn, rows_end}
+use Rattle.pixel.specs.Blend.{blend_pixel}
+use Rattle.cursor.specs.Spans.{span, overlaid_visible}
+use Rattle.cursor.proofs.Spans.{visible_pixel, row_visible}
 use Rattle.cursor.proofs.overlay_visible.Statement.{statement}
 use Rattle.cursor.proofs.overlay_visible.Tie as tie
 
 abbrev invariant-loop : tie.invariant-loop
 invariant-loop picture₀ width image w step pitch x y sx sy n h j₀ picture j =
-    RowsDone step x y n h (λ k. blendPixel (visiblePixel step pitch (span x sx n) (span y sy h) image k) (get_or picture₀ k 0)) picture₀ j picture
+    RowsDone step x y n h (λ k. blend_pixel (visible_pixel step pitch (span x sx n) (span y sy h) image k) (get_or picture₀ k 0)) picture₀ j picture
 
 abbrev decreases-loop : tie.decreases-loop
 decreases-loop picture₀ width image w step pitch x y sx sy n h j₀ picture j = h - j
@@ -45,19 +45,19 @@ loop-again c =
     let a = (Start turn).args in
     let in-picture = (Start turn).requires.0 in
     let m : from turn + a.columns.n - from turn ≡ a.columns.n = omega arith in
-    rows-turn turn.before.loop.invariant in-picture turn.loop-test.true _ _ c.before.before.blend-row.ensures
+    rows_turn turn.before.loop.invariant in-picture turn.loop-test.true _ _ c.before.before.blend-row.ensures
     (λ k t stood. rw (m, stood)
-    (ap (λ (p : ℕ). blendPixel p (get_or a.picture.now k 0)) (row-visible a.width a.w a.columns a.lines a.image.now _ k in-picture.across (lent turn) t)))
+    (ap (λ (p : ℕ). blend_pixel p (get_or a.picture.now k 0)) (row_visible a.width a.w a.columns a.lines a.image.now _ k in-picture.across (lent turn) t)))
 
 returns : tie.Need-returns invariant-loop decreases-loop
-unfolding overlaidVisible
+unfolding overlaid_visible
 returns c = rows_end c.before.loop.invariant c.loop-test.false
 
 pub overlay-visible-spec : {M : Type 1} → statement M
 overlay-visible-spec =
     tie.close
     (tie.spec invariant-loop decreases-loop (λ c. search rules) (λ c. search rules) (λ c. search rules) (λ c. search rules) (λ c. search rules) (λ c. search rules)
-    (λ c. rows-begin) (λ c. search rules) (λ c. omega (arith, room c)) (λ c. omega (arith, room c)) (λ c. omega (arith, room c)) (λ c. search rules)
+    (λ c. rows_begin) (λ c. search rules) (λ c. omega (arith, room c)) (λ c. omega (arith, room c)) (λ c. omega (arith, room c)) (λ c. search rules)
     (λ c. omega (arith, lent c)) (λ c. omega (arith, lent c)) (λ c. omega (arith, lent c)) (λ c. omega (arith, room c)) (λ c. search rules) (λ c. search
     rules) (λ c. omega (arith, room c)) (λ c. omega (arith, lent c.before)) (λ c. search rules) (λ c. search rules)
     (λ c. omega (arith, lent c.before)) blend-row-requires (λ c. search rules) (λ c. search rules) loop-again (λ c. search rules) returns)

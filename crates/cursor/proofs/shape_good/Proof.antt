@@ -4,7 +4,7 @@ use mathlib.Core.Path.{◌≡◌}
 use mathlib.Core.Bool.{true}
 use lib.Dec.{leb}
 use borrow.Author.Tests.{le-leb, le-ltb, lt-leb, lt-ltb}
-use Rattle.cursor.specs.Plane.{shapeGood}
+use Rattle.cursor.specs.Plane.{shape_good}
 use Rattle.cursor.proofs.shape_good.Statement.{statement}
 use Rattle.cursor.proofs.shape_good.Tie as tie
 
@@ -17,7 +17,7 @@ sides : (c : tie.Else4)
 sides c = (le-leb 1 _ (First c).if1.false, le-leb _ 64 c.before.before.before.before.if2.false, le-leb 1 _ c.before.before.if3.false, le-leb _ 64 c.if4.false)
 
 pub shape-good-spec : {M : Type 1} → statement M
-unfolding shapeGood
+unfolding shape_good
 shape-good-spec =
     tie.close
     (tie.spec

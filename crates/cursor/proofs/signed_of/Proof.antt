@@ -7,14 +7,14 @@ use borrow.Author.Tests.{lt-ltb, le-ltb}
 use lib.IntN.{pos}
 use mir.Syntax.{w64}
 use mir.ValLaws.{to_z_pos, to_z-of_z}
-use Rattle.cursor.proofs.Integers.{mag-diff}
+use Rattle.cursor.proofs.Integers.{mag_diff}
 use Rattle.cursor.proofs.signed_of.Statement.{statement}
 use Rattle.cursor.proofs.signed_of.Tie as tie
 
 sub-result : tie.Need-overflow-sub-result
 sub-result c =
     rw (to_z_pos w64 c.before.args.x (omega arith))
-    (record { sfits = omega (arith, mag-diff (pos c.before.args.x) (pos 4294967296)) })
+    (record { sfits = omega (arith, mag_diff (pos c.before.args.x) (pos 4294967296)) })
 
 returns : tie.Need-returns
 returns c = rw (to_z_pos w64 c.before.args.x (omega arith), lt-ltb _ (2 ^ 31) c.if1.true)

@@ -1,12 +1,12 @@
 -- `device::condition_good` meets its contract.
 -- Assumes nothing.
 use borrow.Author.Rules.{rules}
-use Rattle.device.specs.Device.{conditionGood}
+use Rattle.device.specs.Device.{condition_good}
 use Rattle.device.proofs.condition_good.Statement.{statement}
 use Rattle.device.proofs.condition_good.Tie as tie
 
 pub condition-good-spec : {M : Type 1} → statement M
-unfolding conditionGood
+unfolding condition_good
 condition-good-spec =
     tie.close
     (tie.spec

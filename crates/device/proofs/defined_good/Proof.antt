@@ -1,12 +1,12 @@
 -- `device::defined_good` meets its contract.
 -- Assumes nothing.
 use borrow.Author.Rules.{rules}
-use Rattle.device.specs.Device.{definedGood}
+use Rattle.device.specs.Device.{defined_good}
 use Rattle.device.proofs.defined_good.Statement.{statement}
 use Rattle.device.proofs.defined_good.Tie as tie
 
 pub defined-good-spec : {M : Type 1} → statement M
-unfolding definedGood
+unfolding defined_good
 defined-good-spec =
     tie.close
     (tie.spec

@@ -13,5 +13,5 @@ make_spec =
     tie.close
     (tie.spec
     (λ c κs. search rules)
-    (λ c. rw (sym c.before.sizes-good.ensures ∙ not-true _ c.if1.true))
-    (λ c. rw (sym c.before.sizes-good.ensures ∙ not-false _ c.if1.false)))
+    (λ c. rw (sym c.before.sizes_good_lem.ensures ∙ not-true _ c.if1.true))
+    (λ c. rw (sym c.before.sizes_good_lem.ensures ∙ not-false _ c.if1.false)))

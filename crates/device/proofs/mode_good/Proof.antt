@@ -1,12 +1,12 @@
 -- `device::mode_good` meets its contract.
 -- Assumes nothing.
 use borrow.Author.Tests.{le-leb, lt-leb}
-use Rattle.device.specs.Device.{modeGood}
+use Rattle.device.specs.Device.{mode_good}
 use Rattle.device.proofs.mode_good.Statement.{statement}
 use Rattle.device.proofs.mode_good.Tie as tie
 
 pub mode-good-spec : {M : Type 1} → statement M
-unfolding modeGood
+unfolding mode_good
 mode-good-spec =
     tie.close
     (tie.spec

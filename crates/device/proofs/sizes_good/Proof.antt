@@ -1,12 +1,12 @@
 -- `device::sizes_good` meets its contract.
 -- Assumes nothing.
 use borrow.Author.Tests.{eq-eqb, le-leb, lt-leb, ne_eqb}
-use Rattle.device.specs.Device.{sizesGood}
+use Rattle.device.specs.Device.{sizes_good}
 use Rattle.device.proofs.sizes_good.Statement.{statement}
 use Rattle.device.proofs.sizes_good.Tie as tie
 
 pub sizes-good-spec : {M : Type 1} → statement M
-unfolding sizesGood
+unfolding sizes_good
 sizes-good-spec =
     tie.close
     (tie.spec

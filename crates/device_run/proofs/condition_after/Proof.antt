@@ -1,12 +1,12 @@
 -- `device_run::condition_after` meets its contract.
 -- Assumes nothing.
 use borrow.Author.Rules.{rules}
-use Rattle.device_run.specs.Run.{conditionAfter}
+use Rattle.device_run.specs.Run.{condition_after}
 use Rattle.device_run.proofs.condition_after.Statement.{statement}
 use Rattle.device_run.proofs.condition_after.Tie as tie
 
 pub condition-after-spec : {M : Type 1} → statement M
-unfolding conditionAfter
+unfolding condition_after
 condition-after-spec =
     tie.close
     (tie.spec

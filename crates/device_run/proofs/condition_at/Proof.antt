@@ -1,12 +1,12 @@
 -- `device_run::condition_at` meets its contract.
 -- Assumes nothing.
 use borrow.Author.Rules.{rules}
-use Rattle.device_run.specs.Run.{conditionAfter}
+use Rattle.device_run.specs.Run.{condition_after}
 use Rattle.device_run.proofs.condition_at.Statement.{statement}
 use Rattle.device_run.proofs.condition_at.Tie as tie
 
 pub condition-at-spec : {M : Type 1} → statement M
-unfolding conditionAfter
+unfolding condition_after
 condition-at-spec =
     tie.close
     (tie.spec

@@ -2,12 +2,12 @@
 -- Assumes nothing.
 use borrow.Author.Rules.{rules}
 use borrow.Author.Tests.{eq-eqb, ne_eqb}
-use Rattle.device_run.specs.Run.{lentGood}
+use Rattle.device_run.specs.Run.{lent_good}
 use Rattle.device_run.proofs.lent_good.Statement.{statement}
 use Rattle.device_run.proofs.lent_good.Tie as tie
 
 pub lent-good-spec : {M : Type 1} → statement M
-unfolding lentGood
+unfolding lent_good
 lent-good-spec =
     tie.close
     (tie.spec

@@ -6,9 +6,9 @@ use borrow.Author.Rules.{rules}
 use borrow.Author.Tests.{not-true, not-false}
 use Rattle.device.specs.declared.Condition.{Condition}
 use Rattle.device.specs.declared.Device.{Device}
-use Rattle.device.specs.Device.{modeFits, wellFormed}
-use Rattle.device_run.specs.Run.{Lent, lent, lentGood, run_by, run_of}
-use Rattle.device_run.proofs.RunLaws.{run-by}
+use Rattle.device.specs.Device.{mode_fits, well_formed}
+use Rattle.device_run.specs.Run.{Lent, lent, lent_good, run_by, run_of}
+use Rattle.device_run.proofs.RunLaws.{run_by_lem}
 use Rattle.device_run.proofs.run.Statement.{statement}
 use Rattle.device_run.proofs.run.Tie as tie
 
@@ -37,11 +37,11 @@ device c = (start c.before).args.d
 abbrev memories : tie.Else1 → Lent
 memories c = let a = (start c.before).args in lent a.ring.now a.framebuffer.now a.screen.now a.cursor.now
 
-good : (c : tie.Else1) → wellFormed (device c) ≡ true
-good c = sym c.before.is-well-formed.ensures ∙ not-false _ c.if1.false
+good : (c : tie.Else1) → well_formed (device c) ≡ true
+good c = sym c.before.is_well_formed.ensures ∙ not-false _ c.if1.false
 
-right : (c : tie.Else2) → let b = past-well-formed c.before in lentGood (device b) (memories b) ≡ true
-right c = sym c.before.lent-good.ensures ∙ not-false _ c.if2.false
+right : (c : tie.Else2) → let b = past-well-formed c.before in lent_good (device b) (memories b) ≡ true
+right c = sym c.before.lent_good_lem.ensures ∙ not-false _ c.if2.false
 
 configured : (c : tie.Else3) → (device (past-well-formed (past-lent c.before).before)).registers.config ≡ true
 configured c = not-false (device (past-well-formed (past-lent c.before).before)).registers.config c.if3.false
@@ -62,25 +62,25 @@ module _ (c : tie.Else5) where
   abbrev at_1 : tie.Else1
   at_1 = past-well-formed at-2.before
 
-  mode : modeFits (device at_1) ≡ true
+  mode : mode_fits (device at_1) ≡ true
   mode = sym c.before.mode-fits.ensures ∙ not-false _ c.if5.false
 
   by_condition : (k : Condition) → (device at_1).condition ≡ k
       → let b = (start at_1.before).args.budget in run_of (device at_1) (memories at_1) b ≡ run_by (device at_1) (memories at_1) b k
   by_condition k e =
-      run-by (device at_1) (memories at_1) _ k (good at_1) (right at-2) (configured at-3) (enabled at-4) mode e
+      run_by_lem (device at_1) (memories at_1) _ k (good at_1) (right at-2) (configured at-3) (enabled at-4) mode e
 
 -- ---- the returns
 
 returns : tie.Need-returns
 unfolding run_of
-returns c = rw (c.refused.ensures, sym c.before.before.is-well-formed.ensures ∙ not-true _ c.before.if1.true)
+returns c = rw (c.refused.ensures, sym c.before.before.is_well_formed.ensures ∙ not-true _ c.before.if1.true)
 
 returns-2 : tie.Need-returns-2
 unfolding run_of
 returns-2 c =
     let b = c.before.before in
-    rw (c.refused2.ensures, good (past-well-formed b), sym b.lent-good.ensures ∙ not-true _ c.before.if2.true)
+    rw (c.refused2.ensures, good (past-well-formed b), sym b.lent_good_lem.ensures ∙ not-true _ c.before.if2.true)
 
 returns-3 : tie.Need-returns-3
 unfolding run_of
@@ -122,7 +122,7 @@ run-ring-requires c κs = let b = (at-ring c).before.before in (good (at_1 b), m
 
 returns-7 : tie.Need-returns-7
 returns-7 c =
-    let b = at-ring (at-run c).before in (at-run c).run-ring.ensures ∙ sym (by_condition b.before.before _ b.condition.given.1)
+    let b = at-ring (at-run c).before in (at-run c).run_ring.ensures ∙ sym (by_condition b.before.before _ b.condition.given.1)
 
 returns-8 : tie.Need-returns-8
 unfolding run_by

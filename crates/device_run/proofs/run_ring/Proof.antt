@@ -4,9 +4,9 @@ use borrow.Author.Rules.{rules}
 use mathlib.Core.Path.{sym, ap, ◌∙◌}
 use Rattle.geometry.specs.declared.Frame.{Frame}
 use Rattle.effect.specs.Effects.{Scene, scene}
-use Rattle.run.specs.Run.{RingOutcome, postsIn, runIn}
+use Rattle.run.specs.Run.{RingOutcome, posts_in, run_in}
 use Rattle.device_run.specs.Run.{Lent, lent, machine_of, ran, run_by}
-use Rattle.device_run.proofs.ByRows.{scene-by-rows}
+use Rattle.device_run.proofs.ByRows.{scene_by_rows}
 use Rattle.device_run.proofs.run_ring.Statement.{statement}
 use Rattle.device_run.proofs.run_ring.Tie as tie
 
@@ -27,10 +27,10 @@ returns c =
     let l : Lent = lent a.ring.now a.framebuffer.now a.screen.now a.cursor.now in
     let at = a.at in
     let held = (start f).pre in
-    let by : Scene → RingOutcome = λ s. runIn s at a.budget a.ring.now (machine_of a.d l at) in
-    let by-frame : Frame → RingOutcome = λ x. by (scene x a.framebuffer.now (postsIn at)) in
+    let by : Scene → RingOutcome = λ s. run_in s at a.budget a.ring.now (machine_of a.d l at) in
+    let by-frame : Frame → RingOutcome = λ x. by (scene x a.framebuffer.now (posts_in at)) in
     c.settle.ensures l _ _ _
-    ∙ ap (ran a.d l) ((at-run c).run.ensures ∙ ap by-frame f.frame-of.ensures ∙ ap by (sym (scene-by-rows a.d l at held.0 held.1)))
+    ∙ ap (ran a.d l) ((at-run c).run.ensures ∙ ap by-frame f.frame-of.ensures ∙ ap by (sym (scene_by_rows a.d l at held.0 held.1)))
 
 pub run-ring-spec : {M : Type 1} → statement M
 run-ring-spec =

@@ -11,4 +11,4 @@ settle-spec =
     (λ c κs. search rules)
     (λ c κs. search rules)
     (λ c κs. search rules)
-    (λ c l ring screen cursor. rw (c.before.before.before.answer-of.ensures, c.before.before.before.before.busy-after.ensures, c.before.before.before.before.before.condition-after.ensures)))
+    (λ c l ring screen cursor. rw (c.before.before.before.answer-of.ensures, c.before.before.before.before.busy_after_lem.ensures, c.before.before.before.before.before.condition_after_lem.ensures)))

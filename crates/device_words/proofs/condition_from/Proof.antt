@@ -1,12 +1,12 @@
 -- `device_words::condition_from` meets its contract.
 -- Assumes nothing.
 use borrow.Author.Tests.{eq-eqb, ne_eqb}
-use Rattle.device_words.specs.Words.{conditionFrom}
+use Rattle.device_words.specs.Words.{condition_from}
 use Rattle.device_words.proofs.condition_from.Statement.{statement}
 use Rattle.device_words.proofs.condition_from.Tie as tie
 
 pub condition-from-spec : {M : Type 1} → statement M
-unfolding conditionFrom
+unfolding condition_from
 condition-from-spec =
     tie.close
     (tie.spec

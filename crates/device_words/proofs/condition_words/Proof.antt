@@ -1,12 +1,12 @@
 -- `device_words::condition_words` meets its contract.
 -- Assumes nothing.
 use borrow.Author.Rules.{rules}
-use Rattle.device_words.specs.Words.{conditionParts}
+use Rattle.device_words.specs.Words.{condition_parts}
 use Rattle.device_words.proofs.condition_words.Statement.{statement}
 use Rattle.device_words.proofs.condition_words.Tie as tie
 
 pub condition-words-spec : {M : Type 1} → statement M
-unfolding conditionParts
+unfolding condition_parts
 condition-words-spec =
     tie.close
     (tie.spec

@@ -6,7 +6,7 @@ use mathlib.Core.Path.{◌≡◌, refl, ap, ◌∙◌}
 use native.Mathlib.Omega.{arith}
 use lib.ListN.{length, get_or, set, length-set}
 use lib.Seq.{paste, paste-zero}
-use Rattle.device_words.proofs.Laws.{paste_more, paste-whole}
+use Rattle.device_words.proofs.Laws.{paste_more, paste_whole}
 use Rattle.device_words.proofs.put_words.Statement.{statement}
 use Rattle.device_words.proofs.put_words.Tie as tie
 
@@ -29,7 +29,7 @@ returns : tie.Need-returns invariant-loop decreases-loop
 returns c =
     let a = c.before.before.args in
     c.before.loop.invariant.1 ∙ ap (λ k. paste a.w.now 0 a.words.now k) {x = c.before.loop.i} {y = 64} (omega arith)
-    ∙ paste-whole a.w.now a.words.now 64 (omega arith) (omega arith)
+    ∙ paste_whole a.w.now a.words.now 64 (omega arith) (omega arith)
 
 pub put-words-spec : {M : Type 1} → statement M
 put-words-spec =

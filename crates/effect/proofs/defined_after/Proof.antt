@@ -1,12 +1,12 @@
 -- `effect::defined_after` meets its contract.
 -- Assumes nothing.
 use borrow.Author.Rules.{rules}
-use Rattle.effect.specs.Effects.{definedAfter}
+use Rattle.effect.specs.Effects.{defined_after}
 use Rattle.effect.proofs.defined_after.Statement.{statement}
 use Rattle.effect.proofs.defined_after.Tie as tie
 
 pub defined-after-spec : {M : Type 1} → statement M
-unfolding definedAfter
+unfolding defined_after
 defined-after-spec =
     tie.close
     (tie.spec

@@ -1,12 +1,12 @@
 -- `effect::fence_after` meets its contract.
 -- Assumes nothing.
 use borrow.Author.Rules.{rules}
-use Rattle.effect.specs.Effects.{fenceAfter}
+use Rattle.effect.specs.Effects.{fence_after}
 use Rattle.effect.proofs.fence_after.Statement.{statement}
 use Rattle.effect.proofs.fence_after.Tie as tie
 
 pub fence-after-spec : {M : Type 1} → statement M
-unfolding fenceAfter
+unfolding fence_after
 fence-after-spec =
     tie.close
     (tie.spec

@@ -1,12 +1,12 @@
 -- `geometry::cut_copy` meets its contract.
 -- Assumes nothing.
 use borrow.Author.Rules.{rules}
-use Rattle.geometry.specs.Rectangle.{cutCopy}
+use Rattle.geometry.specs.Rectangle.{cut_copy}
 use Rattle.geometry.proofs.cut_copy.Statement.{statement}
 use Rattle.geometry.proofs.cut_copy.Tie as tie
 
 returns : tie.Need-returns
-unfolding cutCopy
+unfolding cut_copy
 returns c =
     let w = c.before.before.before.before.span_below.ensures in
     let h = c.before.before.before.span-below2.ensures in

@@ -1,12 +1,12 @@
 -- `history::condition_at_start` meets its contract.
 -- Assumes nothing.
 use borrow.Author.Rules.{rules}
-use Rattle.history.specs.Demand.{ringAtStart}
+use Rattle.history.specs.Demand.{ring_at_start}
 use Rattle.history.proofs.condition_at_start.Statement.{statement}
 use Rattle.history.proofs.condition_at_start.Tie as tie
 
 pub condition-at-start-spec : {M : Type 1} → statement M
-unfolding ringAtStart
+unfolding ring_at_start
 condition-at-start-spec =
     tie.close
     (tie.spec

@@ -1,7 +1,7 @@
 -- `history::perform_pair` meets its contract.
 -- Assumes nothing.
 use borrow.Author.Rules.{rules}
-use Rattle.history.proofs.Walks.{pair-append, pair-run}
+use Rattle.history.proofs.Walks.{pair_append, pair_run}
 use Rattle.history.proofs.perform_pair.Statement.{statement}
 use Rattle.history.proofs.perform_pair.Tie as tie
 
@@ -13,7 +13,7 @@ not-append c = c.before.before.before.before
 
 returns-2 : tie.Need-returns-2
 returns-2 c =
-    let r = at-run c in pair-run _ _ _ _ _ r.run.result _ (not-append r).if1.left r.run.ensures c.before.run-number.ensures
+    let r = at-run c in pair_run _ _ _ _ _ r.run.result _ (not-append r).if1.left r.run.ensures c.before.run_number_lem.ensures
 
 pub perform-pair-spec : {M : Type 1} → statement M
 perform-pair-spec =
@@ -22,7 +22,7 @@ perform-pair-spec =
     (λ c κs. search rules)
     (λ c κs. search rules)
     (λ c. search rules)
-    (λ c. pair-append _ _ _ _ _ _ c.before.before.before.append.result c.before.before.before.before.before.if1.true c.before.before.before.append.ensures c.append-number.ensures)
+    (λ c. pair_append _ _ _ _ _ _ c.before.before.before.append.result c.before.before.before.before.before.if1.true c.before.before.before.append.ensures c.append-number.ensures)
     (λ c κs. search rules)
     (λ c κs. search rules)
     (λ c. search rules)

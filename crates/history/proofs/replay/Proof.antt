@@ -26,7 +26,7 @@ replay-spec =
     (λ c. search rules)
     (λ c. search rules)
     (λ c. search rules)
-    (λ c. record { no_start = sym c.before.is-start.ensures ∙ not-true _ c.if1.true; same-list = refl; same-memories = refl })
+    (λ c. record { no_start = sym c.before.is-start.ensures ∙ not-true _ c.if1.true; same_list = refl; same_memories = refl })
     (λ c κs. search rules)
     (λ c. search rules)
     (λ c. search rules)

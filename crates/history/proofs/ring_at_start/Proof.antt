@@ -6,8 +6,8 @@ use mathlib.Core.Bool.{true}
 use native.Mathlib.Omega.{arith}
 use borrow.Author.Tests.{not-true, not-false, eq-eqb, ne_eqb}
 use Rattle.ring.specs.Acceptance.{usable, Usable}
-use Rattle.ring.proofs.Laws.{usable-when}
-use Rattle.history.specs.Demand.{ringAtStart}
+use Rattle.ring.proofs.Laws.{usable_when}
+use Rattle.history.specs.Demand.{ring_at_start}
 use Rattle.history.proofs.ring_at_start.Statement.{statement}
 use Rattle.history.proofs.ring_at_start.Tie as tie
 
@@ -16,7 +16,7 @@ good : (c : tie.Else1) → usable c.before.before.before.args.ring.now ≡ true
 good c = sym c.before.is-usable.ensures ∙ not-false _ c.if1.false
 
 known : (c : tie.Else1) → Usable c.before.before.before.args.ring.now
-known c = usable-when _ (good c)
+known c = usable_when _ (good c)
 
 abbrev past-min : tie.Else2 → tie.Else1
 past-min c = c.before.before.before
@@ -28,7 +28,7 @@ abbrev past_stop : tie.Else4 → tie.Else3
 past_stop c = c.before.before.before
 
 pub ring-at-start-spec : {M : Type 1} → statement M
-unfolding ringAtStart
+unfolding ring_at_start
 ring-at-start-spec =
     tie.close
     (tie.spec

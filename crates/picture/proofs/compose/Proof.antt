@@ -3,14 +3,14 @@
 use mathlib.Core.Path.{sym, ◌∙◌}
 use borrow.Author.Rules.{rules}
 use borrow.Author.Tests.{not-true, not-false}
-use Rattle.picture.proofs.Laws.{unlent-stays, bare, with-cursor}
+use Rattle.picture.proofs.Laws.{unlent_stays, bare, with_cursor}
 use Rattle.picture.proofs.compose.Statement.{statement}
 use Rattle.picture.proofs.compose.Tie as tie
 
 returns : tie.Need-returns
 returns c =
     let a = c.before.before.before.before.before.args in
-    unlent-stays a.width a.rows a.screen.now a.image.now a.output.now (sym c.before.rows-lent.ensures ∙ not-true _ c.if1.true) a.over
+    unlent_stays a.width a.rows a.screen.now a.image.now a.output.now (sym c.before.rows-lent.ensures ∙ not-true _ c.if1.true) a.over
 
 returns-2 : tie.Need-returns-2
 returns-2 c =
@@ -28,7 +28,7 @@ returns-3 c =
     let a = test.before.before.before.before.before.args in
     rw arm.over.given.1
     (rw call.update.ensures at c.before.before.overlay.ensures
-    ∙ with-cursor a.width a.rows a.screen.now a.image.now a.output.now (sym test.before.rows-lent.ensures ∙ not-false _ test.if1.false) _)
+    ∙ with_cursor a.width a.rows a.screen.now a.image.now a.output.now (sym test.before.rows-lent.ensures ∙ not-false _ test.if1.false) _)
 
 pub compose-spec : {M : Type 1} → statement M
 compose-spec =

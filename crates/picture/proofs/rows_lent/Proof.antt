@@ -4,7 +4,7 @@ use Prim.Native.Nat.{◌*◌, ◌≤◌}
 use native.Mathlib.Nat.{mul-le-mul_right}
 use native.Mathlib.Omega.{arith}
 use borrow.Author.Tests.{lt-ltb, le-ltb, le-leb, lt-leb}
-use Rattle.raster.specs.Painters.{rowsFit}
+use Rattle.raster.specs.Painters.{rows_fit}
 use Rattle.picture.proofs.rows_lent.Statement.{statement}
 use Rattle.picture.proofs.rows_lent.Tie as tie
 
@@ -15,7 +15,7 @@ mul-size c =
     omega arith
 
 pub rows-lent-spec : {M : Type 1} → statement M
-unfolding rowsFit
+unfolding rows_fit
 rows-lent-spec =
     tie.close
     (tie.spec

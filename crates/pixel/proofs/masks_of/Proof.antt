@@ -1,12 +1,12 @@
 -- `pixel::masks_of` meets its contract.
 -- Assumes nothing.
 use borrow.Author.Rules.{rules}
-use Rattle.pixel.proofs.ByMasks.{masksOf, merged}
+use Rattle.pixel.proofs.ByMasks.{masks_of, merged}
 use Rattle.pixel.proofs.masks_of.Statement.{statement}
 use Rattle.pixel.proofs.masks_of.Tie as tie
 
 returns : tie.Need-returns
-unfolding masksOf
+unfolding masks_of
 returns c =
     let third = c.before in
     let second = third.before in

@@ -3,11 +3,11 @@
 use mathlib.Core.Path.{◌≡◌, sym}
 use Prim.Native.Nat.{ℕ, zero, suc, ◌≤◌, zero-le}
 use native.Mathlib.Omega.{arith}
-use Rattle.pixel.specs.RasterOperation.{rasterOp}
+use Rattle.pixel.specs.RasterOperation.{raster_op}
 use Rattle.pixel.specs.Named.{Operation, entry}
-use Rattle.pixel.specs.Named.{clear, and, andReverse, copy, andInverted, noop, xor, or, nor, equiv, invert, orReverse, copyInverted, orInverted, nand, set}
-use Rattle.pixel.proofs.Named.{named-is}
-use Rattle.pixel.proofs.Laws.{no-operation}
+use Rattle.pixel.specs.Named.{clear, and, and_reverse, copy, and_inverted, noop, xor, or, nor, equiv, invert, or_reverse, copy_inverted, or_inverted, nand, set}
+use Rattle.pixel.proofs.Named.{named_is}
+use Rattle.pixel.proofs.Laws.{no_operation}
 use Rattle.pixel.proofs.raster_op.Statement.{statement}
 use Rattle.pixel.proofs.raster_op.Tie as tie
 
@@ -21,8 +21,8 @@ at_least zero x m = zero-le
 at_least (suc n) x m = let h = at_least n x m.0 in let e = m.1 in omega arith
 
 -- an arm that does what the named operation of its number does
-case : (c : tie.Start) (o : Operation) → let a = c.args in a.rop ≡ (entry o).number → (entry o).words a.s a.d ≡ rasterOp a.rop a.s a.d
-case c o e = rw e (sym (named-is o _ _ c.ranges.s.fits c.ranges.d.fits))
+case : (c : tie.Start) (o : Operation) → let a = c.args in a.rop ≡ (entry o).number → (entry o).words a.s a.d ≡ raster_op a.rop a.s a.d
+case c o e = rw e (sym (named_is o _ _ c.ranges.s.fits c.ranges.d.fits))
 
 pub raster-op-spec : {M : Type 1} → statement M
 raster-op-spec =
@@ -30,18 +30,18 @@ raster-op-spec =
     (tie.spec
     (λ c. case c.before clear c.match.keys1)
     (λ c. case c.before and c.match.keys2)
-    (λ c. case c.before andReverse c.match.keys3)
+    (λ c. case c.before and_reverse c.match.keys3)
     (λ c. case c.before copy c.match.keys4)
-    (λ c. case c.before andInverted c.match.keys5)
+    (λ c. case c.before and_inverted c.match.keys5)
     (λ c. case c.before noop c.match.keys6)
     (λ c. case c.before xor c.match.keys7)
     (λ c. case c.before or c.match.keys8)
     (λ c. case c.before nor c.match.keys9)
     (λ c. case c.before equiv c.match.keys10)
     (λ c. case c.before invert c.match.keys11)
-    (λ c. case c.before orReverse c.match.keys12)
-    (λ c. case c.before copyInverted c.match.keys13)
-    (λ c. case c.before orInverted c.match.keys14)
+    (λ c. case c.before or_reverse c.match.keys12)
+    (λ c. case c.before copy_inverted c.match.keys13)
+    (λ c. case c.before or_inverted c.match.keys14)
     (λ c. case c.before nand c.match.keys15)
     (λ c. case c.before set c.match.keys16)
-    (λ c. sym (no-operation c.before.args.rop _ _ (at_least 16 c.before.args.rop c.match.rest))))
+    (λ c. sym (no_operation c.before.args.rop _ _ (at_least 16 c.before.args.rop c.match.rest))))

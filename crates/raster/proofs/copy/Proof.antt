@@ -5,30 +5,30 @@ use mathlib.Core.Bool.{true}
 use lib.ListN.{length}
 use borrow.Author.Rules.{rules}
 use borrow.Author.Tests.{not-true, not-false}
-use Rattle.raster.specs.Painters.{rowsFit}
-use Rattle.raster.proofs.Cuts.{rows_fit, copy-inside, copy-refused, copy-nothing, copy-cut}
+use Rattle.raster.specs.Painters.{rows_fit}
+use Rattle.raster.proofs.Cuts.{rows_fit_lem, copy_inside, copy_refused, copy_nothing, copy_cut}
 use Rattle.raster.proofs.copy.Statement.{statement}
 use Rattle.raster.proofs.copy.Tie as tie
 
 returns : tie.Need-returns
 returns c =
     let a = c.before.before.before.args in
-    copy-refused a.width a.rows a.sx a.sy a.area a.rop a.screen.now (sym c.before.rows_fit.ensures ∙ not-true _ c.if1.true)
+    copy_refused a.width a.rows a.sx a.sy a.area a.rop a.screen.now (sym c.before.rows_fit_lem.ensures ∙ not-true _ c.if1.true)
 
 -- where the rows fit
 abbrev Start : tie.Else1 → tie.Start
 Start c = c.before.before.before
 
-fits : (c : tie.Else1) → let a = (Start c).args in rowsFit a.width a.rows (length a.screen.now) ≡ true
-fits c = sym c.before.rows_fit.ensures ∙ not-false _ c.if1.false
+fits : (c : tie.Else1) → let a = (Start c).args in rows_fit a.width a.rows (length a.screen.now) ≡ true
+fits c = sym c.before.rows_fit_lem.ensures ∙ not-false _ c.if1.false
 
 copy-cut-requires : tie.Need-copy-cut-requires
 copy-cut-requires c κs =
     let arm = c.before.before in
     let cut = arm.before.before in
     let a = (Start cut.before).args in
-    let fit = rows_fit a.width a.rows _ (fits cut.before) in
-    let both = copy-inside a.width a.rows a.sx a.sy a.area _ (sym cut.cut-copy.ensures ∙ arm.c.given.1) _ fit.long in
+    let fit = rows_fit_lem a.width a.rows _ (fits cut.before) in
+    let both = copy_inside a.width a.rows a.sx a.sy a.area _ (sym cut.cut-copy.ensures ∙ arm.c.given.1) _ fit.long in
     (both.0, (both.1, fit.narrow))
 
 returns-2 : tie.Need-returns-2
@@ -37,14 +37,14 @@ returns-2 c =
     let arm = call.before.before.before in
     let cut = arm.before.before in
     let a = (Start cut.before).args in
-    call.copy-cut.ensures
-    ∙ copy-cut a.width a.rows a.sx a.sy a.area a.rop a.screen.now _ (fits cut.before) (sym cut.cut-copy.ensures ∙ arm.c.given.1)
+    call.copy_cut.ensures
+    ∙ copy_cut a.width a.rows a.sx a.sy a.area a.rop a.screen.now _ (fits cut.before) (sym cut.cut-copy.ensures ∙ arm.c.given.1)
 
 returns-3 : tie.Need-returns-3
 returns-3 c =
     let cut = c.before.before in
     let a = (Start cut.before).args in
-    copy-nothing a.width a.rows a.sx a.sy a.area a.rop a.screen.now (fits cut.before) (sym cut.cut-copy.ensures ∙ c.enum_told.given.1)
+    copy_nothing a.width a.rows a.sx a.sy a.area a.rop a.screen.now (fits cut.before) (sym cut.cut-copy.ensures ∙ c.enum_told.given.1)
 
 pub copy_spec : {M : Type 1} → statement M
 copy_spec =

@@ -5,29 +5,29 @@ use mathlib.Core.Bool.{true}
 use lib.ListN.{length}
 use borrow.Author.Rules.{rules}
 use borrow.Author.Tests.{not-true, not-false}
-use Rattle.raster.specs.Painters.{rowsFit}
-use Rattle.raster.proofs.Cuts.{rows_fit, cut_inside, fill-refused, fill-nothing, fill-cut}
+use Rattle.raster.specs.Painters.{rows_fit}
+use Rattle.raster.proofs.Cuts.{rows_fit_lem, cut_inside, fill_refused, fill_nothing, fill_cut}
 use Rattle.raster.proofs.fill.Statement.{statement}
 use Rattle.raster.proofs.fill.Tie as tie
 
 returns : tie.Need-returns
 returns c =
     let a = c.before.before.before.args in
-    fill-refused a.width a.rows a.area a.colour a.rop a.screen.now (sym c.before.rows_fit.ensures ∙ not-true _ c.if1.true)
+    fill_refused a.width a.rows a.area a.colour a.rop a.screen.now (sym c.before.rows_fit_lem.ensures ∙ not-true _ c.if1.true)
 
 -- where the rows fit
 abbrev Start : tie.Else1 → tie.Start
 Start c = c.before.before.before
 
-fits : (c : tie.Else1) → let a = (Start c).args in rowsFit a.width a.rows (length a.screen.now) ≡ true
-fits c = sym c.before.rows_fit.ensures ∙ not-false _ c.if1.false
+fits : (c : tie.Else1) → let a = (Start c).args in rows_fit a.width a.rows (length a.screen.now) ≡ true
+fits c = sym c.before.rows_fit_lem.ensures ∙ not-false _ c.if1.false
 
 fill-cut-requires : tie.Need-fill-cut-requires
 fill-cut-requires c κs =
     let arm = c.before.before in
     let cut = arm.before.before in
     let a = (Start cut.before).args in
-    let fit = rows_fit a.width a.rows _ (fits cut.before) in
+    let fit = rows_fit_lem a.width a.rows _ (fits cut.before) in
     cut_inside a.width a.rows a.area _ (sym cut.cut-to.ensures ∙ arm.c.given.1) _ fit.long
 
 returns-2 : tie.Need-returns-2
@@ -36,14 +36,14 @@ returns-2 c =
     let arm = call.before.before.before in
     let cut = arm.before.before in
     let a = (Start cut.before).args in
-    call.fill-cut.ensures
-    ∙ fill-cut a.width a.rows a.area a.colour a.rop a.screen.now _ (fits cut.before) (sym cut.cut-to.ensures ∙ arm.c.given.1)
+    call.fill_cut.ensures
+    ∙ fill_cut a.width a.rows a.area a.colour a.rop a.screen.now _ (fits cut.before) (sym cut.cut-to.ensures ∙ arm.c.given.1)
 
 returns-3 : tie.Need-returns-3
 returns-3 c =
     let cut = c.before.before in
     let a = (Start cut.before).args in
-    fill-nothing a.width a.rows a.area a.colour a.rop a.screen.now (fits cut.before) (sym cut.cut-to.ensures ∙ c.enum_told.given.1)
+    fill_nothing a.width a.rows a.area a.colour a.rop a.screen.now (fits cut.before) (sym cut.cut-to.ensures ∙ c.enum_told.given.1)
 
 pub fill_spec : {M : Type 1} → statement M
 fill_spec =

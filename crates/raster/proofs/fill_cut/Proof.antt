@@ -2,7 +2,7 @@
 -- Assumes nothing.
 use borrow.Author.Rules.{rules}
 use mathlib.Core.Path.{◌≡◌, ◌∙◌}
-use Rattle.raster.proofs.Plain.{single, plain-filled, pixel-filled}
+use Rattle.raster.proofs.Plain.{single, plain_filled, pixel_filled}
 use Rattle.raster.proofs.fill_cut.Statement.{statement}
 use Rattle.raster.proofs.fill_cut.Tie as tie
 
@@ -20,7 +20,7 @@ returns-2 c =
     let plain = test.before.before in
     let start = plain.before.before in
     let a = start.args in
-    rw plain.if1.false (call.store-pixel.ensures ∙ pixel-filled a.width a.area a.colour a.screen.now (one test) start.ranges.colour.fits (λ k. (plain.before.slice-known.given k).fits))
+    rw plain.if1.false (call.store-pixel.ensures ∙ pixel_filled a.width a.area a.colour a.screen.now (one test) start.ranges.colour.fits (λ k. (plain.before.slice-known.given k).fits))
 
 returns-3 : tie.Need-returns-3
 returns-3 c =
@@ -28,7 +28,7 @@ returns-3 c =
     let plain = call.before.before.before.before in
     let start = plain.before.before in
     let a = start.args in
-    rw plain.if1.false (call.store-rows.ensures ∙ plain-filled a.width a.area a.colour a.screen.now start.ranges.colour.fits (λ k. (plain.before.slice-known.given k).fits))
+    rw plain.if1.false (call.store-rows.ensures ∙ plain_filled a.width a.area a.colour a.screen.now start.ranges.colour.fits (λ k. (plain.before.slice-known.given k).fits))
 
 pub fill-cut-spec : {M : Type 1} → statement M
 fill-cut-spec =

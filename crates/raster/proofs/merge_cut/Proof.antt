@@ -5,15 +5,15 @@ use Prim.Native.Nat.{◌-◌}
 use native.Mathlib.Omega.{arith}
 use lib.ListN.{length}
 use borrow.Author.Rules.{rules}
-use Rattle.geometry.proofs.Loops.{CopyDone, copy_begin, Copying, CopyRow, copy-row, copy-turn, copy-end}
-use Rattle.pixel.specs.Masks.{mergePixel}
-use Rattle.raster.proofs.Plain.{masked-copied}
+use Rattle.geometry.proofs.Loops.{CopyDone, copy_begin, Copying, CopyRow, copy_row, copy_turn, copy_end}
+use Rattle.pixel.specs.Masks.{merge_pixel}
+use Rattle.raster.proofs.Plain.{masked_copied}
 use Rattle.raster.proofs.merge_cut.Statement.{statement}
 use Rattle.raster.proofs.merge_cut.Tie as tie
 
 abbrev invariant-loop : tie.invariant-loop
 invariant-loop screen₀ width sx sy rop m back step from-x from-y x y w h done₀ screen done =
-    CopyDone back step from-x from-y x y w h (mergePixel m) screen₀ done screen
+    CopyDone back step from-x from-y x y w h (merge_pixel m) screen₀ done screen
 
 abbrev decreases-loop : tie.decreases-loop
 decreases-loop screen₀ width sx sy rop m back step from-x from-y x y w h done₀ screen done = h - done
@@ -34,20 +34,20 @@ row : (c : tie.After-next-row invariant-loop decreases-loop)
     → let ready = Ready c.before.before in
     let a = (Start ready).args in
     CopyRow ready.comes-after.result a.width a.sx a.sy a.area.x a.area.y a.area.w a.area.h (length a.screen.now) c.next_row.result
-row c = copy-row (copying (Ready c.before.before)) c.before.loop-test.true c.next_row.ensures
+row c = copy_row (copying (Ready c.before.before)) c.before.loop-test.true c.next_row.ensures
 
 loop-again : tie.Need-loop-preserved invariant-loop decreases-loop
 loop-again c =
     let turn = c.before.before.before.before in
     let at-loop = turn.before.before in
-    copy-turn at-loop.loop.invariant (copying (Ready at-loop)) turn.before.loop-test.true turn.next_row.ensures _ c.before.before.copy-row.ensures
+    copy_turn at-loop.loop.invariant (copying (Ready at-loop)) turn.before.loop-test.true turn.next_row.ensures _ c.before.before.copy_row.ensures
 
 returns : tie.Need-returns invariant-loop decreases-loop
 returns c =
     let ready = Ready c.before in
     let a = (Start ready).args in
-    copy-end c.before.loop.invariant c.loop-test.false
-    ∙ masked-copied a.width a.sx a.sy a.area a.screen.now ready.before.masks-of.ensures (λ k. (ready.before.before.slice-known.given k).fits)
+    copy_end c.before.loop.invariant c.loop-test.false
+    ∙ masked_copied a.width a.sx a.sy a.area a.screen.now ready.before.masks-of.ensures (λ k. (ready.before.before.slice-known.given k).fits)
 
 pub merge-cut-spec : {M : Type 1} → statement M
 merge-cut-spec =

@@ -4,13 +4,13 @@ use mathlib.Core.Bool.{false}
 use Prim.Native.Nat.{◌-◌}
 use native.Mathlib.Omega.{arith}
 use borrow.Author.Rules.{rules}
-use Rattle.geometry.proofs.Loops.{PiecesDone, pieces-begin, pieces-turn, pieces-rest}
-use Rattle.pixel.specs.Masks.{mergePixel}
+use Rattle.geometry.proofs.Loops.{PiecesDone, pieces_begin, pieces_turn, pieces_rest}
+use Rattle.pixel.specs.Masks.{merge_pixel}
 use Rattle.raster.proofs.merge_forward.Statement.{statement}
 use Rattle.raster.proofs.merge_forward.Tie as tie
 
 abbrev invariant-loop : tie.invariant-loop
-invariant-loop screen₀ from to n m done₀ screen done = PiecesDone false from to n (mergePixel m) screen₀ done screen
+invariant-loop screen₀ from to n m done₀ screen done = PiecesDone false from to n (merge_pixel m) screen₀ done screen
 
 abbrev decreases-loop : tie.decreases-loop
 decreases-loop screen₀ from to n m done₀ screen done = n - done
@@ -18,15 +18,15 @@ decreases-loop screen₀ from to n m done₀ screen done = n - done
 loop-again : tie.Need-loop-preserved invariant-loop decreases-loop
 loop-again c =
     let at-loop = c.before.before.before.before.before in
-    pieces-turn at-loop.loop.invariant at-loop.before.before.requires.0 (omega arith) 32 (omega arith) _ c.before.before.merge-piece.ensures
+    pieces_turn at-loop.loop.invariant at-loop.before.before.requires.0 (omega arith) 32 (omega arith) _ c.before.before.merge-piece.ensures
 
 returns : tie.Need-returns invariant-loop decreases-loop
 returns c =
     let at-loop = c.before.before.before.before.before in
-    pieces-rest at-loop.loop.invariant at-loop.before.before.requires.0 (omega arith) _ _ _ c.before.before.pixels-forward.ensures (omega arith) (omega arith)
+    pieces_rest at-loop.loop.invariant at-loop.before.before.requires.0 (omega arith) _ _ _ c.before.before.pixels-forward.ensures (omega arith) (omega arith)
 
 pub merge-forward-spec : {M : Type 1} → statement M
 merge-forward-spec =
     tie.close
-    (tie.spec invariant-loop decreases-loop (λ c. pieces-begin) (λ c. omega arith) (λ c. omega arith) (λ c. omega arith) (λ c κs. omega arith) (λ c. omega arith)
+    (tie.spec invariant-loop decreases-loop (λ c. pieces_begin) (λ c. omega arith) (λ c. omega arith) (λ c. omega arith) (λ c κs. omega arith) (λ c. omega arith)
     (λ c. omega arith) loop-again (λ c. omega arith) (λ c. omega arith) (λ c. omega arith) (λ c κs. omega arith) (λ c. search rules) returns)

@@ -4,8 +4,8 @@ use Prim.Native.Nat.{◌-◌}
 use native.Mathlib.Omega.{arith}
 use lib.ListN.{length}
 use borrow.Author.Rules.{rules}
-use Rattle.geometry.proofs.Loops.{CopyDone, copy_begin, Copying, CopyRow, copy-row, copy-turn, copy-end}
-use Rattle.raster.specs.CutPainters.{movedCut}
+use Rattle.geometry.proofs.Loops.{CopyDone, copy_begin, Copying, CopyRow, copy_row, copy_turn, copy_end}
+use Rattle.raster.specs.CutPainters.{moved_cut}
 use Rattle.raster.proofs.move_cut.Statement.{statement}
 use Rattle.raster.proofs.move_cut.Tie as tie
 
@@ -32,17 +32,17 @@ row : (c : tie.After-next-row invariant-loop decreases-loop)
     → let ready = Ready c.before.before in
     let a = (Start ready).args in
     CopyRow ready.comes-after.result a.width a.sx a.sy a.area.x a.area.y a.area.w a.area.h (length a.screen.now) c.next_row.result
-row c = copy-row (copying (Ready c.before.before)) c.before.loop-test.true c.next_row.ensures
+row c = copy_row (copying (Ready c.before.before)) c.before.loop-test.true c.next_row.ensures
 
 loop-again : tie.Need-loop-preserved invariant-loop decreases-loop
 loop-again c =
     let turn = c.before.before.before.before in
     let at-loop = turn.before.before in
-    copy-turn at-loop.loop.invariant (copying (Ready at-loop)) turn.before.loop-test.true turn.next_row.ensures _ c.before.before.plain-Row.ensures
+    copy_turn at-loop.loop.invariant (copying (Ready at-loop)) turn.before.loop-test.true turn.next_row.ensures _ c.before.before.plain-Row.ensures
 
 returns : tie.Need-returns invariant-loop decreases-loop
-unfolding movedCut
-returns c = copy-end c.before.loop.invariant c.loop-test.false
+unfolding moved_cut
+returns c = copy_end c.before.loop.invariant c.loop-test.false
 
 pub move-cut-spec : {M : Type 1} → statement M
 move-cut-spec =

@@ -4,7 +4,7 @@ use mathlib.Core.Bool.{false}
 use Prim.Native.Nat.{◌-◌}
 use native.Mathlib.Omega.{arith}
 use borrow.Author.Rules.{rules}
-use Rattle.geometry.proofs.Loops.{PiecesDone, pieces-begin, pieces-turn, pieces_end, pieces-rest}
+use Rattle.geometry.proofs.Loops.{PiecesDone, pieces_begin, pieces_turn, pieces_end, pieces_rest}
 use Rattle.raster.proofs.move_forward.Statement.{statement}
 use Rattle.raster.proofs.move_forward.Tie as tie
 
@@ -17,7 +17,7 @@ decreases-loop screen₀ from to n done₀ screen done = n - done
 loop-again : tie.Need-loop-preserved invariant-loop decreases-loop
 loop-again c =
     let at-loop = c.before.before.before.before.before in
-    pieces-turn at-loop.loop.invariant at-loop.before.before.requires.0 (omega arith) 4 (omega arith) _ c.before.before.Move-row.ensures
+    pieces_turn at-loop.loop.invariant at-loop.before.before.requires.0 (omega arith) 4 (omega arith) _ c.before.before.Move-row.ensures
 
 returns : tie.Need-returns invariant-loop decreases-loop
 returns c = pieces_end c.before.before.loop.invariant (omega arith)
@@ -25,11 +25,11 @@ returns c = pieces_end c.before.before.loop.invariant (omega arith)
 returns-2 : tie.Need-returns-2 invariant-loop decreases-loop
 returns-2 c =
     let at-loop = c.before.before.before.before.before.before in
-    pieces-rest at-loop.loop.invariant at-loop.before.before.requires.0 (omega arith) _ _ _ c.before.before.move-row2.ensures (omega arith) (omega arith)
+    pieces_rest at-loop.loop.invariant at-loop.before.before.requires.0 (omega arith) _ _ _ c.before.before.move-row2.ensures (omega arith) (omega arith)
 
 pub move-forward-spec : {M : Type 1} → statement M
 move-forward-spec =
     tie.close
-    (tie.spec invariant-loop decreases-loop (λ c. pieces-begin) (λ c. omega arith) (λ c. omega arith) (λ c. omega arith) (λ c κs. omega arith) (λ c. omega arith)
+    (tie.spec invariant-loop decreases-loop (λ c. pieces_begin) (λ c. omega arith) (λ c. omega arith) (λ c. omega arith) (λ c κs. omega arith) (λ c. omega arith)
     (λ c. omega arith) loop-again (λ c. search rules) returns (λ c. omega arith) (λ c. omega arith) (λ c. omega arith) (λ c κs. omega arith)
     (λ c. search rules) returns-2)

@@ -4,7 +4,7 @@ use mathlib.Core.Path.{refl}
 use Prim.Native.Nat.{◌-◌}
 use lib.ListN.{length, get_or}
 use borrow.Author.Rules.{rules}
-use Rattle.geometry.proofs.Tabulate.{Front, front-start, front-step, front-end}
+use Rattle.geometry.proofs.Tabulate.{Front, front_start, front_step, front_end}
 use Rattle.raster.proofs.put_row.Statement.{statement}
 use Rattle.raster.proofs.put_row.Tie as tie
 
@@ -15,13 +15,13 @@ abbrev decreases-loop : tie.decreases-loop
 decreases-loop row₀ src i₀ row i = length row₀ - i
 
 loop-holds : tie.Need-loop-init invariant-loop decreases-loop
-loop-holds c = front-start _ _
+loop-holds c = front_start _ _
 
 loop-again : tie.Need-loop-preserved invariant-loop decreases-loop
-loop-again c = front-step c.before.before.loop.invariant _ c.before.loop-test.true refl
+loop-again c = front_step c.before.before.loop.invariant _ c.before.loop-test.true refl
 
 returns : tie.Need-returns invariant-loop decreases-loop
-returns c = front-end c.before.loop.invariant c.loop-test.false
+returns c = front_end c.before.loop.invariant c.loop-test.false
 
 pub put-row-spec : {M : Type 1} → statement M
 put-row-spec =

@@ -5,15 +5,15 @@ use Prim.Native.Nat.{◌+◌, ◌*◌, ◌-◌, ◌≤◌}
 use native.Mathlib.Omega.{arith}
 use lib.ListN.{length, get_or}
 use borrow.Author.Rules.{rules}
-use Rattle.raster.specs.CutPainters.{reducedCut}
-use Rattle.pixel.specs.Masks.{reducePixel}
+use Rattle.raster.specs.CutPainters.{reduced_cut}
+use Rattle.pixel.specs.Masks.{reduce_pixel}
 use Rattle.geometry.proofs.Rows.{row_room}
-use Rattle.geometry.proofs.Loops.{RowsDone, rows-begin, rows-turn, rows_end}
+use Rattle.geometry.proofs.Loops.{RowsDone, rows_begin, rows_turn, rows_end}
 use Rattle.raster.proofs.reduce_rows.Statement.{statement}
 use Rattle.raster.proofs.reduce_rows.Tie as tie
 
 abbrev invariant-loop : tie.invariant-loop
-invariant-loop screen₀ width keep flip step x y w h j₀ screen j = RowsDone step x y w h (λ k. reducePixel keep flip (get_or screen₀ k 0)) screen₀ j screen
+invariant-loop screen₀ width keep flip step x y w h j₀ screen j = RowsDone step x y w h (λ k. reduce_pixel keep flip (get_or screen₀ k 0)) screen₀ j screen
 
 abbrev decreases-loop : tie.decreases-loop
 decreases-loop screen₀ width keep flip step x y w h j₀ screen j = h - j
@@ -30,17 +30,17 @@ loop-again : tie.Need-loop-preserved invariant-loop decreases-loop
 loop-again c =
     let turn = c.before.before.before.before in
     let a = (Start turn).args in
-    rows-turn turn.before.loop.invariant (Start turn).requires turn.loop-test.true _ _ c.before.before.reduce-row.ensures
-    (λ k t stood. ap (reducePixel a.keep a.flip) stood)
+    rows_turn turn.before.loop.invariant (Start turn).requires turn.loop-test.true _ _ c.before.before.reduce-row.ensures
+    (λ k t stood. ap (reduce_pixel a.keep a.flip) stood)
 
 returns : tie.Need-returns invariant-loop decreases-loop
-unfolding reducedCut
+unfolding reduced_cut
 returns c = rows_end c.before.loop.invariant c.loop-test.false
 
 pub reduce-rows-spec : {M : Type 1} → statement M
 reduce-rows-spec =
     tie.close
-    (tie.spec invariant-loop decreases-loop (λ c. search rules) (λ c. search rules) (λ c. search rules) (λ c. search rules) (λ c. rows-begin) (λ c. search rules)
+    (tie.spec invariant-loop decreases-loop (λ c. search rules) (λ c. search rules) (λ c. search rules) (λ c. search rules) (λ c. rows_begin) (λ c. search rules)
     (λ c. omega (arith, room c)) (λ c. omega (arith, room c)) (λ c. omega (arith, room c)) (λ c. omega (arith, room c)) (λ c. search rules)
     (λ c. search rules) (λ c. omega (arith, room c)) (λ c κs. search rules) (λ c. search rules) (λ c. search rules) loop-again
     (λ c. search rules) returns)

@@ -5,23 +5,23 @@ use Prim.Native.Nat.{◌+◌, ◌*◌, ◌-◌, ◌≤◌}
 use native.Mathlib.Omega.{arith}
 use lib.ListN.{length}
 use borrow.Author.Rules.{rules}
-use Rattle.raster.specs.CutPainters.{storedIn}
-use Rattle.geometry.proofs.Painted.{done-row}
-use Rattle.geometry.proofs.Rows.{row_room, rows_none, rows_grow, grow-right}
+use Rattle.raster.specs.CutPainters.{stored_in}
+use Rattle.geometry.proofs.Painted.{done_row}
+use Rattle.geometry.proofs.Rows.{row_room, rows_none, rows_grow, grow_right}
 use Rattle.raster.proofs.store_pixel.Statement.{statement}
 use Rattle.raster.proofs.store_pixel.Tie as tie
 
 returns : tie.Need-returns
-unfolding storedIn
+unfolding stored_in
 returns c =
     let start = c.before.before.before.before.before in
     let a = start.args in
     let at = a.y * a.width + a.x in
     let first : a.y + 0 ≡ a.y = omega arith in
-    let grows = rw first at (rows_grow a.width a.x 1 a.y 0 a.y 1 _ start.requires.across (grow-right a.y 0 1)) in
+    let grows = rw first at (rows_grow a.width a.x 1 a.y 0 a.y 1 _ start.requires.across (grow_right a.y 0 1)) in
     let room : at + 1 ≤ length a.screen.now = rw first at (row_room start.requires {j = 0} (omega arith)) in
     let n : at + 1 - at ≡ 1 = omega arith in
-    rw n (done-row (rows_none _ _ _ _ _ _) grows room _ (λ k. a.colour) (rw n at c.before.before.store-row.ensures) (λ k h t. refl)).is
+    rw n (done_row (rows_none _ _ _ _ _ _) grows room _ (λ k. a.colour) (rw n at c.before.before.store-row.ensures) (λ k h t. refl)).is
 
 pub store-pixel-spec : {M : Type 1} → statement M
 store-pixel-spec =

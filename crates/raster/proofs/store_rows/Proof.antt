@@ -10,9 +10,9 @@ use borrow.Author.Rules.{rules}
 use borrow.Rule.Slice.PartMut.{mid_of, put_mid}
 use Rattle.geometry.specs.Pixels.{tabulate}
 use Rattle.geometry.specs.Parts.{Inside}
-use Rattle.raster.specs.CutPainters.{storedIn}
+use Rattle.raster.specs.CutPainters.{stored_in}
 use Rattle.geometry.proofs.Rows.{row_room}
-use Rattle.geometry.proofs.Loops.{RowsDone, rows-begin, rows-turn, rows_end}
+use Rattle.geometry.proofs.Loops.{RowsDone, rows_begin, rows_turn, rows_end}
 use Rattle.raster.proofs.store_rows.Statement.{statement}
 use Rattle.raster.proofs.store_rows.Tie as tie
 
@@ -34,7 +34,7 @@ abbrev turn : tie.After-slice-known2 invariant-loop decreases-loop → tie.In-lo
 turn c = c.before.before.before.before
 
 begins : {width x y w h colour : ℕ} {old : List ℕ} → Begun width x y w h colour old 0 (y * width + x) old
-begins {width} {x} {y} = let first : y + 0 ≡ y = omega arith in record { rows = rows-begin; row = rw first refl }
+begins {width} {x} {y} = let first : y + 0 ≡ y = omega arith in record { rows = rows_begin; row = rw first refl }
 
 -- a turn paints row j, and the next begins one row's width behind it
 turns : {width x y w h colour : ℕ} {old : List ℕ} {j at : ℕ} {l : List ℕ} → Begun width x y w h colour old j at l
@@ -44,7 +44,7 @@ turns {width} {x} {y} {w} {h} {colour} {old} {j} {at} {l} begun in-old more row 
     let behind : y + (j + 1) ≡ y + j + 1 = omega arith in
     let painted : row ≡ tabulate (length (mid_of at (at + w - at) l)) (λ i. colour)
     → RowsDone width x y w h (λ k. colour) old (j + 1) (put_mid at (at + w - at) l row) =
-    rw begun.row (λ is'. rows-turn begun.rows in-old more row _ is' (λ k t stood. refl)) in
+    rw begun.row (λ is'. rows_turn begun.rows in-old more row _ is' (λ k t stood. refl)) in
     record {
       rows = painted is;
       row = rw behind (omega (arith, begun.row, add-mul (y + j) 1 width, one-mul width));
@@ -59,7 +59,7 @@ loop-again c =
     turns (turn c).before.loop.invariant (Start (turn c)).pre (turn c).loop-test.true _ c.before.before.store-span.ensures
 
 returns : tie.Need-returns invariant-loop decreases-loop
-unfolding storedIn
+unfolding stored_in
 returns c = rows_end c.before.loop.invariant.rows c.loop-test.false
 
 pub store-rows-spec : {M : Type 1} → statement M

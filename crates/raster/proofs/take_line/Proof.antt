@@ -5,7 +5,7 @@ use Prim.Native.Nat.{◌-◌, ◌≤◌}
 use native.Mathlib.Omega.{arith}
 use lib.ListN.{length, get_or}
 use borrow.Author.Rules.{rules}
-use Rattle.geometry.proofs.Tabulate.{Front, front-start, front-step}
+use Rattle.geometry.proofs.Tabulate.{Front, front_start, front_step}
 use Rattle.raster.proofs.take_line.Statement.{statement}
 use Rattle.raster.proofs.take_line.Tie as tie
 
@@ -16,10 +16,10 @@ abbrev decreases-loop : tie.decreases-loop
 decreases-loop line₀ src i₀ line i = length src - i
 
 loop-holds : tie.Need-loop-init invariant-loop decreases-loop
-loop-holds c = (search rules, front-start _ _)
+loop-holds c = (search rules, front_start _ _)
 
 loop-again : tie.Need-loop-preserved invariant-loop decreases-loop
-loop-again c = (search rules, front-step c.before.before.loop.invariant.1 _ (omega arith) refl)
+loop-again c = (search rules, front_step c.before.before.loop.invariant.1 _ (omega arith) refl)
 
 returns : tie.Need-returns invariant-loop decreases-loop
 returns c =

@@ -5,31 +5,31 @@ use mathlib.Core.Bool.{true}
 use lib.ListN.{length}
 use borrow.Author.Rules.{rules}
 use borrow.Author.Tests.{not-true, not-false}
-use Rattle.raster.specs.Painters.{rowsFit}
-use Rattle.raster.proofs.Cuts.{rows_fit, cut_inside, update-refused, update-unlent, update-nothing, update-cut}
+use Rattle.raster.specs.Painters.{rows_fit}
+use Rattle.raster.proofs.Cuts.{rows_fit_lem, cut_inside, update_refused, update_unlent, update_nothing, update_cut}
 use Rattle.raster.proofs.update.Statement.{statement}
 use Rattle.raster.proofs.update.Tie as tie
 
 returns : tie.Need-returns
 returns c =
     let a = c.before.before.before.before.args in
-    update-refused a.width a.rows a.area a.framebuffer.now a.screen.now (sym c.before.rows_fit.ensures ∙ not-true _ c.if1.true)
+    update_refused a.width a.rows a.area a.framebuffer.now a.screen.now (sym c.before.rows_fit_lem.ensures ∙ not-true _ c.if1.true)
 
 -- where the rows fit in the screen, and where they also fit in the framebuffer
 abbrev Start : tie.Else1 → tie.Start
 Start c = c.before.before.before.before
 
-fits : (c : tie.Else1) → let a = (Start c).args in rowsFit a.width a.rows (length a.screen.now) ≡ true
-fits c = sym c.before.rows_fit.ensures ∙ not-false _ c.if1.false
+fits : (c : tie.Else1) → let a = (Start c).args in rows_fit a.width a.rows (length a.screen.now) ≡ true
+fits c = sym c.before.rows_fit_lem.ensures ∙ not-false _ c.if1.false
 
-lent : (c : tie.Else2) → let a = (Start c.before.before).args in rowsFit a.width a.rows (length a.framebuffer.now) ≡ true
+lent : (c : tie.Else2) → let a = (Start c.before.before).args in rows_fit a.width a.rows (length a.framebuffer.now) ≡ true
 lent c = sym c.before.rows-fit2.ensures ∙ not-false _ c.if2.false
 
 returns-2 : tie.Need-returns-2
 returns-2 c =
     let fit = c.before.before in
     let a = (Start fit).args in
-    update-unlent a.width a.rows a.area a.framebuffer.now a.screen.now (fits fit) (sym c.before.rows-fit2.ensures ∙ not-true _ c.if2.true)
+    update_unlent a.width a.rows a.area a.framebuffer.now a.screen.now (fits fit) (sym c.before.rows-fit2.ensures ∙ not-true _ c.if2.true)
 
 update-cut-requires : tie.Need-update-cut-requires
 update-cut-requires c κs =
@@ -38,8 +38,8 @@ update-cut-requires c κs =
     let fit = cut.before.before.before in
     let a = (Start fit).args in
     let is = sym cut.cut-to.ensures ∙ arm.c.given.1 in (
-      cut_inside a.width a.rows a.area _ is _ (rows_fit a.width a.rows _ (fits fit)).long,
-      cut_inside a.width a.rows a.area _ is _ (rows_fit a.width a.rows _ (lent cut.before)).long,
+      cut_inside a.width a.rows a.area _ is _ (rows_fit_lem a.width a.rows _ (fits fit)).long,
+      cut_inside a.width a.rows a.area _ is _ (rows_fit_lem a.width a.rows _ (lent cut.before)).long,
     )
 
 returns-3 : tie.Need-returns-3
@@ -49,15 +49,15 @@ returns-3 c =
     let cut = arm.before.before in
     let fit = cut.before.before.before in
     let a = (Start fit).args in
-    call.update-cut.ensures
-    ∙ update-cut a.width a.rows a.area a.framebuffer.now a.screen.now _ (fits fit) (lent cut.before) (sym cut.cut-to.ensures ∙ arm.c.given.1)
+    call.update_cut.ensures
+    ∙ update_cut a.width a.rows a.area a.framebuffer.now a.screen.now _ (fits fit) (lent cut.before) (sym cut.cut-to.ensures ∙ arm.c.given.1)
 
 returns-4 : tie.Need-returns-4
 returns-4 c =
     let cut = c.before.before in
     let fit = cut.before.before.before in
     let a = (Start fit).args in
-    update-nothing a.width a.rows a.area a.framebuffer.now a.screen.now (fits fit) (lent cut.before) (sym cut.cut-to.ensures ∙ c.enum_told.given.1)
+    update_nothing a.width a.rows a.area a.framebuffer.now a.screen.now (fits fit) (lent cut.before) (sym cut.cut-to.ensures ∙ c.enum_told.given.1)
 
 pub update-spec : {M : Type 1} → statement M
 update-spec =

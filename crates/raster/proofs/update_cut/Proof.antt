@@ -5,10 +5,10 @@ use Prim.Native.Nat.{ℕ, ◌+◌, ◌*◌, ◌-◌, ◌≤◌}
 use native.Mathlib.Omega.{arith}
 use lib.ListN.{length, get_or, length-take, length-drop}
 use borrow.Author.Rules.{rules}
-use Rattle.raster.specs.CutPainters.{updatedCut}
-use Rattle.geometry.proofs.Painted.{getD-mid-back}
+use Rattle.raster.specs.CutPainters.{updated_cut}
+use Rattle.geometry.proofs.Painted.{get_or_mid_back}
 use Rattle.geometry.proofs.Rows.{row_room}
-use Rattle.geometry.proofs.Loops.{RowsDone, rows-begin, rows-turn, rows_end}
+use Rattle.geometry.proofs.Loops.{RowsDone, rows_begin, rows_turn, rows_end}
 use Rattle.raster.proofs.update_cut.Statement.{statement}
 use Rattle.raster.proofs.update_cut.Tie as tie
 
@@ -39,17 +39,17 @@ loop-again c =
     let turn = c.before.before.before.before.before in
     let a = (Start turn).args in
     let n : at turn + a.area.w - at turn ≡ a.area.w = omega arith in
-    rows-turn turn.before.loop.invariant (Start turn).requires.0 turn.loop-test.true _ _ c.before.before.put-row.ensures
-    (λ k t stood. rw n (getD-mid-back a.framebuffer.now (at turn) a.area.w (lent turn) k t))
+    rows_turn turn.before.loop.invariant (Start turn).requires.0 turn.loop-test.true _ _ c.before.before.put-row.ensures
+    (λ k t stood. rw n (get_or_mid_back a.framebuffer.now (at turn) a.area.w (lent turn) k t))
 
 returns : tie.Need-returns invariant-loop decreases-loop
-unfolding updatedCut
+unfolding updated_cut
 returns c = rows_end c.before.loop.invariant c.loop-test.false
 
 pub update-cut-spec : {M : Type 1} → statement M
 update-cut-spec =
     tie.close
-    (tie.spec invariant-loop decreases-loop (λ c. search rules) (λ c. search rules) (λ c. search rules) (λ c. search rules) (λ c. rows-begin) (λ c. search rules)
+    (tie.spec invariant-loop decreases-loop (λ c. search rules) (λ c. search rules) (λ c. search rules) (λ c. search rules) (λ c. rows_begin) (λ c. search rules)
     (λ c. omega (arith, room c)) (λ c. omega (arith, room c)) (λ c. omega (arith, room c)) (λ c. omega (arith, room c)) (λ c. search rules)
     (λ c. search rules) (λ c. omega (arith, room c)) (λ c. omega (arith, lent c.before)) (λ c. search rules) (λ c. search rules)
     (λ c. omega (arith, lent c.before)) put-row-requires (λ c. search rules) (λ c. search rules) loop-again (λ c. search rules) returns)

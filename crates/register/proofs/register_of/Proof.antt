@@ -3,7 +3,7 @@
 use mathlib.Core.Path.{◌≡◌, sym}
 use Prim.Native.Nat.{ℕ, zero, suc, ◌≤◌, zero-le}
 use native.Mathlib.Omega.{arith}
-use Rattle.register.specs.Numbers.{numbers, registerOf}
+use Rattle.register.specs.Numbers.{numbers, register_of}
 use Rattle.register.proofs.Laws.{absent}
 use Rattle.register.proofs.register_of.Statement.{statement}
 use Rattle.register.proofs.register_of.Tie as tie
@@ -18,7 +18,7 @@ at_least zero i m = zero-le
 at_least (suc n) i m = let h = at_least n i m.0 in let e = m.1 in omega arith
 
 pub register-of-spec : {M : Type 1} → statement M
-unfolding registerOf numbers
+unfolding register_of numbers
 register-of-spec =
     tie.close
     (tie.spec

@@ -2,13 +2,13 @@
 -- Assumes nothing.
 use borrow.Author.Rules.{rules}
 use native.Mathlib.Omega.{arith}
-use Rattle.register_read.specs.Registers.{readOnlyValue}
-use Rattle.device.proofs.Laws.{well-formed, fb-size-fits}
+use Rattle.register_read.specs.Registers.{read_only_value}
+use Rattle.device.proofs.Laws.{well_formed_lem, fb_size_fits}
 use Rattle.register_read.proofs.read_only_value.Statement.{statement}
 use Rattle.register_read.proofs.read_only_value.Tie as tie
 
 pub read-only-value-spec : {M : Type 1} → statement M
-unfolding readOnlyValue
+unfolding read_only_value
 read-only-value-spec =
     tie.close
     (tie.spec
@@ -22,15 +22,15 @@ read-only-value-spec =
     (λ c. search rules)
     (λ c. search rules)
     (λ c. search rules)
-    (λ c. let w = well-formed _ c.before.before.before.before.before.requires in omega (arith, fb-size-fits _ w))
+    (λ c. let w = well_formed_lem _ c.before.before.before.before.before.requires in omega (arith, fb_size_fits _ w))
     (λ c. search rules)
     (λ c. search rules)
     (λ c. search rules)
     (λ c. search rules)
-    (λ c. let w = well-formed _ c.before.before.before.before.before.requires in omega (arith, fb-size-fits _ w))
+    (λ c. let w = well_formed_lem _ c.before.before.before.before.before.requires in omega (arith, fb_size_fits _ w))
     (λ c. search rules)
-    (λ c. let w = well-formed _ c.before.before.before.before.before.requires in omega (arith, fb-size-fits _ w))
-    (λ c. let w = well-formed _ c.before.before.before.before.before.before.requires in omega (arith, fb-size-fits _ w))
+    (λ c. let w = well_formed_lem _ c.before.before.before.before.before.requires in omega (arith, fb_size_fits _ w))
+    (λ c. let w = well_formed_lem _ c.before.before.before.before.before.before.requires in omega (arith, fb_size_fits _ w))
     (λ c. search rules)
     (λ c. search rules)
     (λ c. search rules)

@@ -1,12 +1,12 @@
 -- `register_read::writable_value` meets its contract.
 -- Assumes nothing.
 use borrow.Author.Rules.{rules}
-use Rattle.register_read.specs.Registers.{writableValue}
+use Rattle.register_read.specs.Registers.{writable_value}
 use Rattle.register_read.proofs.writable_value.Statement.{statement}
 use Rattle.register_read.proofs.writable_value.Tie as tie
 
 pub writable-value-spec : {M : Type 1} → statement M
-unfolding writableValue
+unfolding writable_value
 writable-value-spec =
     tie.close
     (tie.spec

@@ -1,12 +1,12 @@
 -- `register_write::configure` meets its contract.
 -- Assumes nothing.
 use borrow.Author.Rules.{rules}
-use Rattle.register_write.specs.Registers.{acceptedWritten}
+use Rattle.register_write.specs.Registers.{accepted_written}
 use Rattle.register_write.proofs.configure.Statement.{statement}
 use Rattle.register_write.proofs.configure.Tie as tie
 
 pub configure-spec : {M : Type 1} → statement M
-unfolding acceptedWritten
+unfolding accepted_written
 configure-spec =
     tie.close
     (tie.spec

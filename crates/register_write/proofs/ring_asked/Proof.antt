@@ -1,12 +1,12 @@
 -- `register_write::ring_asked` meets its contract.
 -- Assumes nothing.
 use borrow.Author.Rules.{rules}
-use Rattle.register_write.specs.Registers.{ringAsked}
+use Rattle.register_write.specs.Registers.{ring_asked}
 use Rattle.register_write.proofs.ring_asked.Statement.{statement}
 use Rattle.register_write.proofs.ring_asked.Tie as tie
 
 pub ring-asked-spec : {M : Type 1} → statement M
-unfolding ringAsked
+unfolding ring_asked
 ring-asked-spec =
     tie.close
     (tie.spec

@@ -13,12 +13,12 @@ write_spec =
     tie.close
     (tie.spec
     (λ c κs. search rules)
-    (λ c. rw (sym c.before.is-well-formed.ensures ∙ not-true _ c.if1.true))
+    (λ c. rw (sym c.before.is_well_formed.ensures ∙ not-true _ c.if1.true))
     (λ c κs. search rules)
     (λ c. search rules)
     (λ c κs. search rules)
-    (λ c. rw (sym c.before.before.before.before.before.before.is-well-formed.ensures ∙ not-false _ c.before.before.before.before.before.if1.false, sym c.before.before.before.before.register_of.ensures ∙ c.before.before.register.given.1) c.write-writable.ensures)
+    (λ c. rw (sym c.before.before.before.before.before.before.is_well_formed.ensures ∙ not-false _ c.before.before.before.before.before.if1.false, sym c.before.before.before.before.register_of.ensures ∙ c.before.before.register.given.1) c.write-writable.ensures)
     (λ c. search rules)
-    (λ c. rw (sym c.before.before.before.before.is-well-formed.ensures ∙ not-false _ c.before.before.before.if1.false, sym c.before.before.register_of.ensures ∙ c.enum_told.given.1))
+    (λ c. rw (sym c.before.before.before.before.is_well_formed.ensures ∙ not-false _ c.before.before.before.if1.false, sym c.before.before.register_of.ensures ∙ c.enum_told.given.1))
     (λ c. search rules)
-    (λ c. rw (sym c.before.before.before.before.is-well-formed.ensures ∙ not-false _ c.before.before.before.if1.false, sym c.before.before.register_of.ensures ∙ c.enum-told2.given.1)))
+    (λ c. rw (sym c.before.before.before.before.is_well_formed.ensures ∙ not-false _ c.before.before.before.if1.false, sym c.before.before.register_of.ensures ∙ c.enum-told2.given.1)))

@@ -1,12 +1,12 @@
 -- `register_write::write_enable` meets its contract.
 -- Assumes nothing.
 use borrow.Author.Tests.{eq-eqb, ne_eqb}
-use Rattle.register_write.specs.Registers.{enableWritten}
+use Rattle.register_write.specs.Registers.{enable_written}
 use Rattle.register_write.proofs.write_enable.Statement.{statement}
 use Rattle.register_write.proofs.write_enable.Tie as tie
 
 pub write-enable-spec : {M : Type 1} → statement M
-unfolding enableWritten
+unfolding enable_written
 write-enable-spec =
     tie.close
     (tie.spec

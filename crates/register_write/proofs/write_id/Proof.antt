@@ -1,12 +1,12 @@
 -- `register_write::write_id` meets its contract.
 -- Assumes nothing.
 use borrow.Author.Tests.{lt-leb, le-leb}
-use Rattle.register_write.specs.Registers.{idWritten}
+use Rattle.register_write.specs.Registers.{id_written}
 use Rattle.register_write.proofs.write_id.Statement.{statement}
 use Rattle.register_write.proofs.write_id.Tie as tie
 
 pub write-id-spec : {M : Type 1} → statement M
-unfolding idWritten
+unfolding id_written
 write-id-spec =
     tie.close
     (tie.spec

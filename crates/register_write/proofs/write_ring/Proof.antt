@@ -2,12 +2,12 @@
 -- Assumes nothing.
 use borrow.Author.Rules.{rules}
 use borrow.Author.Tests.{eq-eqb, ne_eqb}
-use Rattle.register_write.specs.Registers.{ringWritten}
+use Rattle.register_write.specs.Registers.{ring_written}
 use Rattle.register_write.proofs.write_ring.Statement.{statement}
 use Rattle.register_write.proofs.write_ring.Tie as tie
 
 pub write-ring-spec : {M : Type 1} → statement M
-unfolding ringWritten
+unfolding ring_written
 write-ring-spec =
     tie.close
     (tie.spec

@@ -3,12 +3,12 @@
 use borrow.Author.Rules.{rules}
 use mathlib.Core.Path.{sym, ◌∙◌}
 use borrow.Author.Tests.{not-true, not-false}
-use Rattle.register_write.specs.Registers.{writableWritten}
+use Rattle.register_write.specs.Registers.{writable_written}
 use Rattle.register_write.proofs.write_writable.Statement.{statement}
 use Rattle.register_write.proofs.write_writable.Tie as tie
 
 pub write-writable-spec : {M : Type 1} → statement M
-unfolding writableWritten
+unfolding writable_written
 write-writable-spec =
     tie.close
     (tie.spec

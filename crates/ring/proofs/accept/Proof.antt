@@ -6,7 +6,7 @@ use native.Mathlib.Omega.{arith}
 use borrow.Author.Rules.{rules}
 use borrow.Author.Tests.{not-true, not-false}
 use Rattle.ring.specs.Acceptance.{usable}
-use Rattle.ring.proofs.Laws.{usable-when, accepted-when, refused-when}
+use Rattle.ring.proofs.Laws.{usable_when, accepted_when, refused_when}
 use Rattle.ring.proofs.accept.Statement.{statement}
 use Rattle.ring.proofs.accept.Tie as tie
 
@@ -19,8 +19,8 @@ accept-spec =
     tie.close
     (tie.spec
     (λ c κs. search rules)
-    (λ c. sym (refused-when _ (sym c.before.is-usable.ensures ∙ not-true _ c.if1.true)))
-    (λ c. let u = usable-when _ (good c.before) in omega arith)
-    (λ c. let u = usable-when _ (good c.before.before) in omega arith)
-    (λ c. let u = usable-when _ (good c.before.before.before) in omega arith)
-    (λ c. sym (accepted-when _ (good c.before.before.before))))
+    (λ c. sym (refused_when _ (sym c.before.is-usable.ensures ∙ not-true _ c.if1.true)))
+    (λ c. let u = usable_when _ (good c.before) in omega arith)
+    (λ c. let u = usable_when _ (good c.before.before) in omega arith)
+    (λ c. let u = usable_when _ (good c.before.before.before) in omega arith)
+    (λ c. sym (accepted_when _ (good c.before.before.before))))

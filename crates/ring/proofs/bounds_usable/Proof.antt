@@ -4,12 +4,12 @@ use native.Mathlib.Omega.{arith}
 use Prim.Native.Nat.{◌*◌}
 use borrow.Author.Rules.{rules}
 use borrow.Author.Tests.{le-leb, lt-leb, eq-eqb, ne_eqb}
-use Rattle.ring.specs.Acceptance.{boundsUsable}
+use Rattle.ring.specs.Acceptance.{bounds_usable}
 use Rattle.ring.proofs.bounds_usable.Statement.{statement}
 use Rattle.ring.proofs.bounds_usable.Tie as tie
 
 pub bounds-usable-spec : {M : Type 1} → statement M
-unfolding boundsUsable
+unfolding bounds_usable
 bounds-usable-spec =
     tie.close
     (tie.spec

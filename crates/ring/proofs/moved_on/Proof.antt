@@ -2,12 +2,12 @@
 -- Assumes nothing.
 use borrow.Author.Rules.{rules}
 use borrow.Author.Tests.{eq-eqb, ne_eqb}
-use Rattle.ring.specs.Append.{movedOn}
+use Rattle.ring.specs.Append.{moved_on}
 use Rattle.ring.proofs.moved_on.Statement.{statement}
 use Rattle.ring.proofs.moved_on.Tie as tie
 
 pub moved-on-spec : {M : Type 1} → statement M
-unfolding movedOn
+unfolding moved_on
 moved-on-spec =
     tie.close
     (tie.spec

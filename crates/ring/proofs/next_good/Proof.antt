@@ -1,12 +1,12 @@
 -- `ring::next_good` meets its contract.
 -- Assumes nothing.
 use borrow.Author.Tests.{eq-eqb, ne_eqb, le-leb, lt-leb}
-use Rattle.ring.specs.Waiting.{nextGood}
+use Rattle.ring.specs.Waiting.{next_good}
 use Rattle.ring.proofs.next_good.Statement.{statement}
 use Rattle.ring.proofs.next_good.Tie as tie
 
 pub next-good-spec : {M : Type 1} → statement M
-unfolding nextGood
+unfolding next_good
 next-good-spec =
     tie.close
     (tie.spec

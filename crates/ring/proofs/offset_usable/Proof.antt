@@ -1,12 +1,12 @@
 -- `ring::offset_usable` meets its contract: each test of the code is one of the definition.
 -- Assumes nothing.
 use borrow.Author.Tests.{le-leb, lt-leb, eq-eqb, ne_eqb}
-use Rattle.ring.specs.Acceptance.{offsetUsable}
+use Rattle.ring.specs.Acceptance.{offset_usable}
 use Rattle.ring.proofs.offset_usable.Statement.{statement}
 use Rattle.ring.proofs.offset_usable.Tie as tie
 
 pub offset-usable-spec : {M : Type 1} → statement M
-unfolding offsetUsable
+unfolding offset_usable
 offset-usable-spec =
     tie.close
     (tie.spec

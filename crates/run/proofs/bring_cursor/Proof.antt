@@ -4,7 +4,7 @@ use mathlib.Core.Path.{subst}
 use Prim.Native.Nat.{ℕ, ◌*◌, ◌≤◌}
 use native.Mathlib.Nat.{mul-le-mul}
 use borrow.Author.Rules.{rules}
-use Rattle.effect.specs.Effects.{cursorAfter}
+use Rattle.effect.specs.Effects.{cursor_after}
 use Rattle.command.specs.declared.Action.{Action}
 use Rattle.command.specs.declared.Action.TheVariants.{Define}
 use Rattle.run.specs.Turns.{Ready}
@@ -27,7 +27,7 @@ abbrev defined : tie.After-copy-pixels → tie.After-action
 defined c = c.before.before.before.before
 
 pub bring-cursor-spec : {M : Type 1} → statement M
-unfolding cursorAfter
+unfolding cursor_after
 bring-cursor-spec =
     tie.close
     (tie.spec
@@ -44,6 +44,6 @@ bring-cursor-spec =
     (λ c. rw c.enum-told2.given.1)
     (λ c. rw c.enum-told3.given.1)
     (λ c. search rules)
-    (λ c. let d = c.before.before in rw (defined d).action.given.1 d.copy-pixels.ensures)
+    (λ c. let d = c.before.before in rw (defined d).action.given.1 d.copy_pixels.ensures)
     (λ c. rw c.enum-told4.given.1)
     (λ c. rw c.enum-told5.given.1))

@@ -3,7 +3,7 @@
 use mathlib.Core.Path.{◌∙◌}
 use native.Mathlib.Omega.{arith}
 use borrow.Author.Rules.{rules}
-use Rattle.run.proofs.Copying.{pixels-pasted, six-on, six-round}
+use Rattle.run.proofs.Copying.{pixels_pasted, six_on, six_round}
 use Rattle.run.proofs.copy_pixels.Statement.{statement}
 use Rattle.run.proofs.copy_pixels.Tie as tie
 
@@ -23,11 +23,11 @@ copy-pixels-spec =
     (λ c. search rules)
     (λ c. let d = c.before.before in
     let a = (start d).args in
-    d.copy-words.ensures ∙ pixels-pasted a.ring.now a.v a.count _ a.cursor.now (start d).requires.0 (start d).requires.1.0 (six-on a.v.lo a.v.hi a.v.at d.before.before.if1.true))
+    d.copy-words.ensures ∙ pixels_pasted a.ring.now a.v a.count _ a.cursor.now (start d).requires.0 (start d).requires.1.0 (six_on a.v.lo a.v.hi a.v.at d.before.before.if1.true))
     (λ c. let i = c.before.before.before.before.requires.0 in omega arith)
     (λ c. let i = c.before.before.before.before.requires.0 in omega arith)
     (λ c κs. let i = c.before.before.before.before.before.requires.0 in omega arith)
     (λ c. search rules)
     (λ c. let d = c.before.before in
     let a = (start-2 d).args in
-    d.copy-words2.ensures ∙ pixels-pasted a.ring.now a.v a.count _ a.cursor.now (start-2 d).requires.0 (start-2 d).requires.1.0 (six-round a.v.lo a.v.hi a.v.at d.before.before.if1.false)))
+    d.copy-words2.ensures ∙ pixels_pasted a.ring.now a.v a.count _ a.cursor.now (start-2 d).requires.0 (start-2 d).requires.1.0 (six_round a.v.lo a.v.hi a.v.at d.before.before.if1.false)))

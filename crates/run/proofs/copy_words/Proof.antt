@@ -6,7 +6,7 @@ use native.Mathlib.Omega.{arith}
 use borrow.Author.Rules.{rules}
 use lib.ListN.{drop}
 use lib.Seq.{paste}
-use Rattle.run.proofs.Copying.{copied-straight, copied-wrapped}
+use Rattle.run.proofs.Copying.{copied_straight, copied_wrapped}
 use Rattle.run.proofs.copy_words.Statement.{statement}
 use Rattle.run.proofs.copy_words.Tie as tie
 
@@ -29,7 +29,7 @@ copy-words-spec =
     (λ c. search rules)
     (λ c. let d = c.before.before in
     let a = (start d).args in
-    d.copy-span.ensures ∙ copied-straight a.ring.now a.lo a.hi (omega arith) a.p a.count (omega arith) (omega arith) (omega arith) a.image.now a.to (omega arith) (omega arith))
+    d.copy-span.ensures ∙ copied_straight a.ring.now a.lo a.hi (omega arith) a.p a.count (omega arith) (omega arith) (omega arith) a.image.now a.to (omega arith) (omega arith))
     (λ c κs. omega arith)
     (λ c. omega arith)
     (λ c. omega arith)
@@ -39,4 +39,4 @@ copy-words-spec =
     let a = (start-2 (first d)).args in
     d.copy-span3.ensures
     ∙ ap (λ l. paste l (a.to + (a.hi - a.p)) (drop a.lo a.ring.now) (a.count - (a.hi - a.p))) (first d).copy-span2.ensures
-    ∙ copied-wrapped a.ring.now a.lo a.hi (omega arith) a.p a.count (omega arith) (omega arith) (omega arith) a.image.now a.to (omega arith) _ refl (omega arith)))
+    ∙ copied_wrapped a.ring.now a.lo a.hi (omega arith) a.p a.count (omega arith) (omega arith) (omega arith) a.image.now a.to (omega arith) _ refl (omega arith)))

@@ -4,7 +4,7 @@ use mathlib.Core.Path.{ap, ◌∙◌}
 use borrow.Author.Rules.{rules}
 use Rattle.run.specs.declared.View.{View}
 use Rattle.run.specs.Run.{stamped}
-use Rattle.run.proofs.TurnLaws.{stop-fits}
+use Rattle.run.proofs.TurnLaws.{stop_fits}
 use Rattle.run.proofs.executed.Statement.{statement}
 use Rattle.run.proofs.executed.Tie as tie
 
@@ -15,7 +15,7 @@ stamp-requires : tie.Need-stamp-requires
 stamp-requires c κs =
     let passed = c.before in
     let p = (start passed).requires in
-    (p.1.2, rw passed.pass.ensures (stop-fits p.0 p.1.1 _ p.1.0))
+    (p.1.2, rw passed.pass.ensures (stop_fits p.0 p.1.1 _ p.1.0))
 
 returns : tie.Need-returns
 returns c =

@@ -10,7 +10,7 @@ use lib.Seq.{take_all}
 use Rattle.ring.specs.Waiting.{words}
 use Rattle.ring.proofs.WaitingLaws.{length-words}
 use Rattle.run.specs.Turns.{words_in, row_in}
-use Rattle.run.proofs.Copying.{line_row, line-front}
+use Rattle.run.proofs.Copying.{line_row, line_front}
 use Rattle.run.proofs.fill_line.Statement.{statement}
 use Rattle.run.proofs.fill_line.Tie as tie
 
@@ -43,7 +43,7 @@ returns c =
       low = omega arith;
       high = omega arith;
       row = rw d.copy-words.ensures (line_row a.ring.now a.v a.v.n _ (begun (start d)) size (omega arith) (omega arith) refl ∙ same);
-      six = rw d.copy-words.ensures (line-front a.line.now _ a.v.n all (start d).requires.1.1);
+      six = rw d.copy-words.ensures (line_front a.line.now _ a.v.n all (start d).requires.1.1);
     }
 
 returns-2 : tie.Need-returns-2
@@ -56,7 +56,7 @@ returns-2 c =
       low = omega arith;
       high = omega arith;
       row = rw d.copy-words2.ensures (line_row a.ring.now a.v 10 17 (begun (start-2 d)) size (omega arith) d.before.before.if1.false refl);
-      six = rw d.copy-words2.ensures (line-front a.line.now _ 10 ten (start-2 d).requires.1.1);
+      six = rw d.copy-words2.ensures (line_front a.line.now _ 10 ten (start-2 d).requires.1.1);
     }
 
 pub fill-line-spec : {M : Type 1} → statement M

@@ -6,10 +6,10 @@ use Prim.Native.Nat.{ℕ, ◌≤◌}
 use native.Mathlib.Omega.{arith}
 use borrow.Author.Rules.{rules}
 use lib.ListN.{length}
-use Rattle.command.specs.Findings.{stepIn}
+use Rattle.command.specs.Findings.{step_in}
 use Rattle.run.specs.declared.Pause.{Pause}
-use Rattle.run.specs.Going.{pauseOf}
-use Rattle.run.proofs.Rows.{same_row, pauses-spent, pauses-at}
+use Rattle.run.specs.Going.{pause_of}
+use Rattle.run.proofs.Rows.{same_row, pauses_spent, pauses_at}
 use Rattle.run.proofs.line_turn.Statement.{statement}
 use Rattle.run.proofs.line_turn.Tie as tie
 
@@ -25,7 +25,7 @@ module _ (c : tie.After-slice-known4) where
   within = (ran.row-turns.ensures.0.within, start.pre.1, start.pre.2)
 
 abbrev pause : List ℕ → Pause
-pause row = pauseOf (stepIn tt row)
+pause row = pause_of (step_in tt row)
 
 -- the words at which they ended were not written to
 requires-pause-in : tie.Need-pause-in-requires
@@ -41,7 +41,7 @@ returns-2 c =
     let r = ran e.before in
     let same = same_row (omega arith) (start e.before).pre.1 (λ t. omega arith) r.row-turns.ensures.0 in
     let some : 1 ≤ r.row-turns.result.left = omega (arith, e.if1.false) in
-    (r.row-turns.ensures.0, rw (c.pause-in.ensures ∙ ap pause same) (pauses-at _ _ _ (r.row-turns.ensures.1 some) some refl))
+    (r.row-turns.ensures.0, rw (c.pause-in.ensures ∙ ap pause same) (pauses_at _ _ _ (r.row-turns.ensures.1 some) some refl))
 
 pub line-turn-spec : {M : Type 1} → statement M
 line-turn-spec =
@@ -50,7 +50,7 @@ line-turn-spec =
     (λ c κs. let p = c.before.before.before.before.before.requires in (omega arith, p.0, p.1, p.2, λ t. omega arith))
     (λ c. (ran c.before).row-turns.kept.1.1.1.1.1.0)
     (λ c. (ran c.before).row-turns.kept.1.1.1.1.1.1.1.0)
-    (λ c. ((ran c.before).row-turns.ensures.0, pauses-spent _ _ c.if1.true))
+    (λ c. ((ran c.before).row-turns.ensures.0, pauses_spent _ _ c.if1.true))
     (λ c. let b = within c.before in omega arith)
     (λ c. let b = within c.before in omega arith)
     (λ c. let b = within c.before.before in omega arith)

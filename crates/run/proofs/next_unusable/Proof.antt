@@ -2,11 +2,11 @@
 -- Assumes nothing.
 use borrow.Author.Tests.{eq-eqb, ne_eqb}
 use Rattle.run.proofs.next_unusable.Statement.{statement}
-use Rattle.run.specs.Turns.{nextUnusable}
+use Rattle.run.specs.Turns.{next_unusable}
 use Rattle.run.proofs.next_unusable.Tie as tie
 
 pub next-unusable-spec : {M : Type 1} → statement M
-unfolding nextUnusable
+unfolding next_unusable
 next-unusable-spec =
     tie.close
     (tie.spec

@@ -10,14 +10,14 @@ use lib.ListN.{length, take}
 use Rattle.execution.specs.Straight.{exec, ends}
 use Rattle.ring.specs.Waiting.{ahead}
 use Rattle.ring.proofs.WaitingLaws.{length-words, ahead_in}
-use Rattle.command.proofs.Laws.{command-laws}
+use Rattle.command.proofs.Laws.{command_laws}
 use Rattle.effect.specs.Effects.{Scene, scene, Machine}
 use Rattle.run.specs.declared.View.{View}
 use Rattle.run.specs.declared.Pause.TheVariants.{Spent, Short, Faults, Long}
-use Rattle.run.specs.Run.{machine, postedIn}
-use Rattle.run.specs.Turns.{InView, Stands, words_in, passedIn, row_in}
+use Rattle.run.specs.Run.{machine, posted_in}
+use Rattle.run.specs.Turns.{InView, Stands, words_in, passed_in, row_in}
 use Rattle.run.specs.Going.{marked, turn, RowGoing, Pauses}
-use Rattle.run.proofs.TurnLaws.{stops, turn-drained, line-fits, line-goes, line_kept, line_same, line-short, line-faults, line-long}
+use Rattle.run.proofs.TurnLaws.{stops, turn_drained, line_fits, line_goes, line_kept, line_same, line_short, line_faults, line_long}
 use Rattle.run.proofs.one_turn.Statement.{statement}
 use Rattle.run.proofs.one_turn.Tie as tie
 
@@ -33,8 +33,8 @@ returns : tie.Need-returns
 returns c =
     let a = (start c.before.before).args in
     let s = scene a.frame a.framebuffer.now a.posts in
-    let m = machine a.marks a.screen.now a.cursor.now (postedIn a.posts a.ring.now) in
-    rw c.stopped.ensures (stops s a.v a.ring.now m _ (turn-drained _ a.v a.ring.now _ c.before.if1.true))
+    let m = machine a.marks a.screen.now a.cursor.now (posted_in a.posts a.ring.now) in
+    rw c.stopped.ensures (stops s a.v a.ring.now m _ (turn_drained _ a.v a.ring.now _ c.before.if1.true))
 
 -- the line and its turns
 module _ (c : tie.After-line-turn) where
@@ -60,10 +60,10 @@ module _ (c : tie.After-line-turn) where
   s = scene entry.args.frame entry.args.framebuffer.now entry.args.posts
 
   abbrev m : Machine
-  m = machine entry.args.marks entry.args.screen.now entry.args.cursor.now (postedIn entry.args.posts ring)
+  m = machine entry.args.marks entry.args.screen.now entry.args.cursor.now (posted_in entry.args.posts ring)
 
   fits : c.line-turn.result.at - 7 ≤ v.n
-  fits = line-fits s v ring stand.inside stand.carries filled.fill-line.ensures c.line-turn.ensures.0
+  fits = line_fits s v ring stand.inside stand.carries filled.fill-line.ensures c.line-turn.ensures.0
 
 -- the row's turns, seen from what follows them
 abbrev by-spent : tie.After-enum-told → tie.After-line-turn
@@ -102,7 +102,7 @@ returns-2 c =
     let a = (entry r).args in
     let z = r.line-turn.ensures.1.spent t.enum_told.given.1 in
     rw e.executed.ensures.0
-    (line-goes (s r) (v r) (ring r) (stand r).inside (stand r).carries (filled r).fill-line.ensures r.line-turn.ensures.0 z
+    (line_goes (s r) (v r) (ring r) (stand r).inside (stand r).carries (filled r).fill-line.ensures r.line-turn.ensures.0 z
     a.marks.defined a.cursor.now _ _ p.bring-posted.ensures e.executed.ensures.1)
 
 -- it stopped
@@ -113,7 +113,7 @@ returns-3 c =
     let kept = line_kept (s r) (v r) (ring r) (stand r).inside (stand r).carries (filled r).fill-line.ensures r.line-turn.ensures.0 z.0 in
     rw (c.stopped2.ensures, kept)
     (stops (s r) (v r) (ring r) (m r) _
-    (line-short (s r) (v r) (ring r) (stand r).inside (stand r).carries (filled r).fill-line.ensures r.line-turn.ensures.0 z.0 z.1 (some_words r) (m r)))
+    (line_short (s r) (v r) (ring r) (stand r).inside (stand r).carries (filled r).fill-line.ensures r.line-turn.ensures.0 z.0 z.1 (some_words r) (m r)))
 
 returns-4 : tie.Need-returns-4
 returns-4 c =
@@ -123,7 +123,7 @@ returns-4 c =
     let kept = line_kept (s r) (v r) (ring r) (stand r).inside (stand r).carries (filled r).fill-line.ensures r.line-turn.ensures.0 z.0 in
     rw (c.stopped3.ensures, kept)
     (stops (s r) (v r) (ring r) (m r) _
-    (line-faults (s r) (v r) (ring r) (stand r).inside (stand r).carries (filled r).fill-line.ensures r.line-turn.ensures.0 z.0 _ z.1 (m r)))
+    (line_faults (s r) (v r) (ring r) (stand r).inside (stand r).carries (filled r).fill-line.ensures r.line-turn.ensures.0 z.0 _ z.1 (m r)))
 
 -- a command with data
 data-turn-requires : tie.Need-data-turn-requires
@@ -132,7 +132,7 @@ data-turn-requires c κs =
     let r = by-data w in
     let z = r.line-turn.ensures.1.long _ w.why2.given.1 in
     let same = line_same (s r) (v r) (ring r) (stand r).inside (stand r).carries (filled r).fill-line.ensures r.line-turn.ensures.0 z.0 in
-    let kind = line-long (s r) (v r) (ring r) (stand r).inside (stand r).carries (filled r).fill-line.ensures r.line-turn.ensures.0 z.0 _ z.1 in
+    let kind = line_long (s r) (v r) (ring r) (stand r).inside (stand r).carries (filled r).fill-line.ensures r.line-turn.ensures.0 z.0 _ z.1 in
     let by-min = subst (λ (b : Bool). Stands b (v r) (ring r) (entry r).args.cursor.now) (stand r).posted (stand r) in
     (by-min, (some_words r, rw same (filled r).fill-line.ensures.row, kind))
 

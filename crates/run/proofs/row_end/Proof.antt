@@ -2,12 +2,12 @@
 -- Assumes nothing.
 use borrow.Author.Rules.{rules}
 use borrow.Author.Tests.{lt-ltb, le-ltb}
-use Rattle.run.specs.Turns.{rowEnd}
+use Rattle.run.specs.Turns.{row_end}
 use Rattle.run.proofs.row_end.Statement.{statement}
 use Rattle.run.proofs.row_end.Tie as tie
 
 pub row-end-spec : {M : Type 1} → statement M
-unfolding rowEnd
+unfolding row_end
 row-end-spec =
     tie.close
     (tie.spec

@@ -13,13 +13,13 @@ use lib.ListN.{length}
 use Rattle.command.specs.declared.Step.{Step}
 use Rattle.command.specs.declared.Step.TheVariants.{Does, Short, Faults, Long}
 use Rattle.command.specs.contracts.Step as S
-use Rattle.command.specs.Findings.{stepIn}
+use Rattle.command.specs.Findings.{step_in}
 use Rattle.effect.specs.Effects.{scene}
 use Rattle.run.specs.declared.Pause.TheVariants.{Spent}
 use Rattle.run.specs.Run.{stamped}
 use Rattle.run.specs.Turns.{row_in, Clear}
-use Rattle.run.specs.Going.{pauseOf, RowGoing}
-use Rattle.run.proofs.Rows.{row-start, same_row, row-same-length, row-clear, row_fits, row_more}
+use Rattle.run.specs.Going.{pause_of, RowGoing}
+use Rattle.run.proofs.Rows.{row_start, same_row, row_same_length, row_clear, row_fits, row_more}
 use Rattle.run.proofs.row_turns.Statement.{statement}
 use Rattle.run.proofs.row_turns.Tie as tie
 
@@ -52,7 +52,7 @@ module _ (c : tie.At-loop invariant-loop decreases-loop) where
   same = same_row low there clear c.loop.invariant.0
 
   lengths : length c.loop.memory ≡ length (Start c).args.memory.now
-  lengths = row-same-length low there clear c.loop.invariant.0
+  lengths = row_same_length low there clear c.loop.invariant.0
 
 -- what the places in a row ask for
 bounds : (c : tie.At-loop invariant-loop decreases-loop)
@@ -72,7 +72,7 @@ module _ (c : tie.After-step invariant-loop decreases-loop) where
   abbrev turn : tie.After-step-in invariant-loop decreases-loop
   turn = c.before.before
 
-  abbrev does : stepIn tt (row turn) ≡ Does c.step.given.0.0 c.step.given.0.1.0
+  abbrev does : step_in tt (row turn) ≡ Does c.step.given.0.0 c.step.given.0.1.0
   does = sym turn.step_in.ensures ∙ c.step.given.1
 
   fits : (1 ≤ c.step.given.0.1.0) × ((at-loop turn).loop.at + c.step.given.0.1.0 ≤ (Start (at-loop turn)).args.end)
@@ -103,7 +103,7 @@ loop-again c =
     )
 
 -- a step that is not executed
-not-spent : (step : Step) → OneOf (1 ∷ 2 ∷ 3 ∷ []) (tag_of S.the_type step) → pauseOf step ≡ Spent → ⊥
+not-spent : (step : Step) → OneOf (1 ∷ 2 ∷ 3 ∷ []) (tag_of S.the_type step) → pause_of step ≡ Spent → ⊥
 not-spent (Does a n) o q = ⊎_elim (λ e. omega arith) (⊎_elim (λ e. omega arith) (λ e. omega arith)) o
 not-spent Short o q = true≢false cc
 not-spent (Faults c) o q = true≢false cc
@@ -113,7 +113,7 @@ returns : tie.Need-returns invariant-loop decreases-loop
 returns c =
     let turn = c.before in
     let at = at-loop turn in
-    (at.loop.inv.0, λ h q. not-spent turn.step_in.result c.match.keys2 (ap pauseOf (turn.step_in.ensures ∙ ap (stepIn tt) (same at)) ∙ q))
+    (at.loop.inv.0, λ h q. not-spent turn.step_in.result c.match.keys2 (ap pause_of (turn.step_in.ensures ∙ ap (step_in tt) (same at)) ∙ q))
 
 pub row-turns-spec : {M : Type 1} → statement M
 row-turns-spec =
@@ -121,7 +121,7 @@ row-turns-spec =
     (tie.spec
     invariant-loop
     decreases-loop
-    (λ c. (row-start _ _ _ _ _ _ _ c.before.before.before.requires.1, refl))
+    (λ c. (row_start _ _ _ _ _ _ _ c.before.before.before.requires.1, refl))
     (λ c. let b = bounds c.before in omega arith)
     (λ c. let b = bounds c.before in omega arith)
     (λ c. let b = bounds c.before.before in omega arith)
@@ -132,7 +132,7 @@ row-turns-spec =
     (λ c. (at-loop c.before).loop.inv.1)
     returns
     (λ c κs. search rules)
-    (λ c κs. let at = at-loop (turn (step c.before.before.before)) in row-clear (low at) (there at) (clear at) at.loop.inv.0)
+    (λ c κs. let at = at-loop (turn (step c.before.before.before)) in row_clear (low at) (there at) (clear at) at.loop.inv.0)
     (λ c. let d = step (drawn c.before.before) in let b = bounds (at-loop (turn d)) in let f = fits d in omega arith)
     (λ c κs. let post = c.before.before.before in
     let d = step (drawn post) in

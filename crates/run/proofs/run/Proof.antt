@@ -6,9 +6,9 @@ use borrow.Author.Rules.{rules}
 use borrow.Author.Tests.{not-true, not-false}
 use lib.ListN.{length}
 use Rattle.ring.specs.Acceptance.{next_of}
-use Rattle.ring.specs.Waiting.{nextGood}
+use Rattle.ring.specs.Waiting.{next_good}
 use Rattle.run.specs.Run.{fitting}
-use Rattle.run.proofs.RunLaws.{run-unfit, run-next-unusable, run-posts, can-view, can-turn, head-there}
+use Rattle.run.proofs.RunLaws.{run_unfit, run_next_unusable, run_posts, can_view, can_turn, head_there}
 use Rattle.run.proofs.run.Statement.{statement}
 use Rattle.run.proofs.run.Tie as tie
 
@@ -23,7 +23,7 @@ fits c = sym c.before.is-fitting.ensures ∙ not-false _ c.if1.false
 abbrev past_fits : tie.After-next-good → tie.Else1
 past_fits c = c.before.before
 
-usable : (c : tie.Else2) → (let a = (start (past_fits c.before)).args in nextGood a.at (next_of a.ring.now) ≡ true)
+usable : (c : tie.Else2) → (let a = (start (past_fits c.before)).args in next_good a.at (next_of a.ring.now) ≡ true)
 usable c = sym c.before.next-good.ensures ∙ not-false _ c.if2.false
 
 abbrev past_next : tie.After-view-of → tie.Else2
@@ -43,7 +43,7 @@ at-turns c = c.before.before.before.before.before.before
 returns-2 : tie.Need-returns-2
 returns-2 c =
     let n = c.before.before in
-    rw c.next-unusable.ensures (sym (run-next-unusable _ _ _ _ _ (fits (past_fits n)) (sym n.next-good.ensures ∙ not-true _ c.before.if2.true)))
+    rw c.next_unusable_lem.ensures (sym (run_next_unusable _ _ _ _ _ (fits (past_fits n)) (sym n.next-good.ensures ∙ not-true _ c.before.if2.true)))
 
 returns-3 : tie.Need-returns-3
 returns-3 c =
@@ -51,23 +51,23 @@ returns-3 c =
     let p = at-posts t in
     let v = at-view p in
     let e = past_next v in
-    t.turns.ensures ∙ run-posts _ _ _ _ _ _ _ _ _ _ (fits (past_fits e.before)) (usable e) v.view_of.ensures p.posts-in.ensures
+    t.turns.ensures ∙ run_posts _ _ _ _ _ _ _ _ _ _ (fits (past_fits e.before)) (usable e) v.view_of.ensures p.posts-in.ensures
 
 pub run_spec : {M : Type 1} → statement M
 run_spec =
     tie.close
     (tie.spec
     (λ c κs. search rules)
-    (λ c. sym (run-unfit _ _ _ _ _ (sym c.before.is-fitting.ensures ∙ not-true _ c.if1.true)))
-    (λ c. head-there _ _ _ (fits c.before))
+    (λ c. sym (run_unfit _ _ _ _ _ (sym c.before.is-fitting.ensures ∙ not-true _ c.if1.true)))
+    (λ c. head_there _ _ _ (fits c.before))
     (λ c κs. search rules)
     (λ c κs. search rules)
     returns-2
-    (λ c κs. can-view _ _ _ _ (fits (past_fits c.before)) (usable c))
+    (λ c κs. can_view _ _ _ _ (fits (past_fits c.before)) (usable c))
     (λ c κs. search rules)
     (λ c κs. let p = c.before.before.before in
     let v = at-view p in
-    can-turn _ _ _ _ _ (fits (past_fits (past_next v).before)) (usable (past_next v)) v.view_of.ensures _ p.posts-in.ensures)
+    can_turn _ _ _ _ _ (fits (past_fits (past_next v).before)) (usable (past_next v)) v.view_of.ensures _ p.posts-in.ensures)
     (λ c. search rules)
     (λ c. search rules)
     (λ c. search rules)

@@ -7,18 +7,18 @@ use native.Mathlib.Omega.{arith}
 use borrow.Author.Rules.{rules}
 use lib.ListN.{length}
 use Rattle.effect.specs.Effects.{Scene, scene, Machine}
-use Rattle.run.specs.Turns.{InView, Stands, rowEnd, words_in, passedIn, place_of}
-use Rattle.run.specs.Run.{machine, postedIn}
-use Rattle.run.specs.Going.{marked, Going, After, stopOf, after}
-use Rattle.run.proofs.Posting.{clear-min}
-use Rattle.run.proofs.Loop.{row-bounds, going_start, going-rows, going-one, going-stops, going-spent, going-left, same_length, can-stand}
+use Rattle.run.specs.Turns.{InView, Stands, row_end, words_in, passed_in, place_of}
+use Rattle.run.specs.Run.{machine, posted_in}
+use Rattle.run.specs.Going.{marked, Going, After, stop_of, after}
+use Rattle.run.proofs.Posting.{clear_min}
+use Rattle.run.proofs.Loop.{row_bounds, going_start, going_rows, going_one, going_stops, going_spent, going_left, same_length, can_stand}
 use Rattle.run.proofs.turns.Statement.{statement}
 use Rattle.run.proofs.turns.Tie as tie
 
 abbrev invariant-loop : tie.invariant-loop
 invariant-loop budget posts ring₀ framebuffer screen₀ cursor₀ frame v₀ marks₀ left₀ ring screen cursor v marks left =
-    Going (scene frame framebuffer posts) budget v₀ ring₀ (machine marks₀ screen₀ cursor₀ (postedIn posts ring₀))
-    v ring (machine marks screen cursor (postedIn posts ring)) left
+    Going (scene frame framebuffer posts) budget v₀ ring₀ (machine marks₀ screen₀ cursor₀ (posted_in posts ring₀))
+    v ring (machine marks screen cursor (posted_in posts ring)) left
     × (length screen ≡ length screen₀) × (length cursor ≡ length cursor₀)
 
 abbrev decreases-loop : tie.decreases-loop
@@ -33,19 +33,19 @@ module _ (c : tie.At-loop invariant-loop decreases-loop) where
   first = Start.pre
 
   stand : Stands Start.args.posts c.loop.v c.loop.ring c.loop.cursor
-  stand = can-stand first c.loop.invariant.0 c.loop.invariant.2
+  stand = can_stand first c.loop.invariant.0 c.loop.invariant.2
 
 -- the row of a turn
 module _ (c : tie.After-row-turns invariant-loop decreases-loop) where
   abbrev at-loop : tie.At-loop invariant-loop decreases-loop
   at-loop = c.before.before.before.before.before
 
-  abbrev ended : c.before.before.before.row-end.result ≡ rowEnd at-loop.loop.v
+  abbrev ended : c.before.before.before.row-end.result ≡ row_end at-loop.loop.v
   ended = c.before.before.before.row-end.ensures
 
   row_fits : c.row-turns.result.at - at-loop.loop.v.at ≤ at-loop.loop.v.n
   row_fits =
-      let b = row-bounds at-loop.loop.ring at-loop.loop.v (stand at-loop).inside in
+      let b = row_bounds at-loop.loop.ring at-loop.loop.v (stand at-loop).inside in
       omega (arith, b, ended, c.row-turns.ensures.0.within)
 
 -- behind it
@@ -78,15 +78,15 @@ loop-again : tie.Need-loop-preserved invariant-loop decreases-loop
 loop-again c =
     let t = executed c in
     let p = behind-row t in
-    let g = going-rows (first (loop p)) (loop p).loop.inv.0 (stand (loop p)) (ended (row p)) (row p).row-turns.ensures.0 _ p.pass.ensures in
-    let here = can-stand (first (loop p)) g {cursor = (loop p).loop.cursor} (loop p).loop.inv.2 in (
-      going-one (first (loop p)) g here (some_left t) _ t.one-turn.ensures (ap stopOf c.before.before.enum_told.given.1),
+    let g = going_rows (first (loop p)) (loop p).loop.inv.0 (stand (loop p)) (ended (row p)) (row p).row-turns.ensures.0 _ p.pass.ensures in
+    let here = can_stand (first (loop p)) g {cursor = (loop p).loop.cursor} (loop p).loop.inv.2 in (
+      going_one (first (loop p)) g here (some_left t) _ t.one-turn.ensures (ap stop_of c.before.before.enum_told.given.1),
       t.one-turn.kept.1.1.1.1.1.0 ∙ (row p).row-turns.kept.1.1.1.1.1.1.1.0 ∙ (loop p).loop.inv.1,
       t.one-turn.kept.1.1.1.1.1.1.0 ∙ (loop p).loop.inv.2,
     )
 
-same-ring : tie.Need-same-length invariant-loop decreases-loop
-same-ring c =
+same_ring : tie.Need-same-length invariant-loop decreases-loop
+same_ring c =
     let t = stopped c.before in
     let p = behind-row t in
     t.one-turn.kept.1.1.1.0 ∙ (row p).row-turns.kept.1.1.1.1.1.0 ∙ same_length (first (loop p)) (loop p).loop.inv.0
@@ -104,8 +104,8 @@ returns : tie.Need-returns invariant-loop decreases-loop
 returns c =
     let t = stopped c.before in
     let p = behind-row t in
-    let g = going-rows (first (loop p)) (loop p).loop.inv.0 (stand (loop p)) (ended (row p)) (row p).row-turns.ensures.0 _ p.pass.ensures in
-    rw c.ran_to.ensures (going-stops (first (loop p)) g (some_left t) _ t.one-turn.ensures _ (ap stopOf c.before.before.stop.given.1) _ refl refl refl refl refl)
+    let g = going_rows (first (loop p)) (loop p).loop.inv.0 (stand (loop p)) (ended (row p)) (row p).row-turns.ensures.0 _ p.pass.ensures in
+    rw c.ran_to.ensures (going_stops (first (loop p)) g (some_left t) _ t.one-turn.ensures _ (ap stop_of c.before.before.stop.given.1) _ refl refl refl refl refl)
 
 -- the budget is spent
 returns-2 : tie.Need-returns-2 invariant-loop decreases-loop
@@ -113,19 +113,19 @@ returns-2 c =
     let l = c.before.before in
     let f = first l in
     let z = c.before.loop-test.false in
-    rw (c.ran-to2.ensures, ← (stand l).posted) (going-left f l.loop.invariant.0 _ _ (omega (arith, z)) (going-spent f l.loop.invariant.0 z))
+    rw (c.ran-to2.ensures, ← (stand l).posted) (going_left f l.loop.invariant.0 _ _ (omega (arith, z)) (going_spent f l.loop.invariant.0 z))
 
 row-turns-requires : tie.Need-row-turns-requires invariant-loop decreases-loop
 row-turns-requires c κs =
     let l = c.before.before.before.before in
     let s = stand l in
-    let b = row-bounds l.loop.ring l.loop.v s.inside in
+    let b = row_bounds l.loop.ring l.loop.v s.inside in
     let e = c.before.before.row-end.ensures in (
       omega (arith, s.low, s.inside.from),
       omega (arith, b, e),
       omega (arith, b, e, s.inside.fits),
       omega (arith, b, e, s.small),
-      λ t. omega (arith, clear-min (place_of l.loop.v) s.posted t, s.inside.from),
+      λ t. omega (arith, clear_min (place_of l.loop.v) s.posted t, s.inside.from),
     )
 
 pub turns-spec : {M : Type 1} → statement M
@@ -139,20 +139,20 @@ turns-spec =
     row-turns-requires
     (λ c. omega (arith, c.before.before.before.before.before.row-turns.ensures.0.from))
     (λ c κs. let r = c.before.before.before.before.before in let s = stand (at-loop r) in (s.inside.from, s.inside.below, row_fits r, s.inside.held, s.small))
-    (λ c κs. let p = c.before.before.before.before in can-stand (first (loop p)) (going-rows (first (loop p)) (loop p).loop.invariant.0 (stand (loop p)) (ended (row p)) (row p).row-turns.ensures.0 _ p.pass.ensures) (loop p).loop.invariant.2)
+    (λ c κs. let p = c.before.before.before.before in can_stand (first (loop p)) (going_rows (first (loop p)) (loop p).loop.invariant.0 (stand (loop p)) (ended (row p)) (row p).row-turns.ensures.0 _ p.pass.ensures) (loop p).loop.invariant.2)
     (λ c. search rules)
     (λ c. omega (arith, some_left (executed c)))
     (λ c. let t = executed c in omega (arith, some_left t, (row (behind-row t)).row-turns.ensures.0.bounded))
     loop-again
     (λ c. search rules)
-    (λ c. let p = behind-row (stopped c) in let g = going-rows (first (loop p)) (loop p).loop.inv.0 (stand (loop p)) (ended (row p)) (row p).row-turns.ensures.0 _ p.pass.ensures in omega (arith, g.bounded))
-    (λ c κs. let p = behind-row (stopped c) in let s = can-stand (first (loop p)) (going-rows (first (loop p)) (loop p).loop.inv.0 (stand (loop p)) (ended (row p)) (row p).row-turns.ensures.0 _ p.pass.ensures) {cursor = (loop p).loop.cursor} (loop p).loop.inv.2 in (omega (arith, s.inside.from, s.inside.below), omega (arith, s.inside.below), s.small))
-    same-ring
+    (λ c. let p = behind-row (stopped c) in let g = going_rows (first (loop p)) (loop p).loop.inv.0 (stand (loop p)) (ended (row p)) (row p).row-turns.ensures.0 _ p.pass.ensures in omega (arith, g.bounded))
+    (λ c κs. let p = behind-row (stopped c) in let s = can_stand (first (loop p)) (going_rows (first (loop p)) (loop p).loop.inv.0 (stand (loop p)) (ended (row p)) (row p).row-turns.ensures.0 _ p.pass.ensures) {cursor = (loop p).loop.cursor} (loop p).loop.inv.2 in (omega (arith, s.inside.from, s.inside.below), omega (arith, s.inside.below), s.small))
+    same_ring
     same-screen
     same-cursor
     returns
     (λ c. let p = c.before in omega (arith, c.if1.false, (row p).before.before.before.before.loop-test.true))
-    (λ c. let p = c.before in (going-rows (first (loop p)) (loop p).loop.invariant.0 (stand (loop p)) (ended (row p)) (row p).row-turns.ensures.0 _ p.pass.ensures, (row p).row-turns.auto.1.1.1.1.1.1.1.0 ∙ (loop p).loop.invariant.1, (loop p).loop.invariant.2))
+    (λ c. let p = c.before in (going_rows (first (loop p)) (loop p).loop.invariant.0 (stand (loop p)) (ended (row p)) (row p).row-turns.ensures.0 _ p.pass.ensures, (row p).row-turns.auto.1.1.1.1.1.1.1.0 ∙ (loop p).loop.invariant.1, (loop p).loop.invariant.2))
     (λ c κs. let s = stand c.before in (omega (arith, s.inside.from, s.inside.below), omega (arith, s.inside.below), s.small))
     (λ c. let l = c.before.before in same_length (first l) l.loop.invariant.0)
     (λ c. c.before.before.loop.invariant.1)

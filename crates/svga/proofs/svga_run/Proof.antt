@@ -5,8 +5,8 @@ use borrow.Author.Tests.{ne_eqb}
 use mathlib.Core.Path.{◌≡◌, sym, ◌∙◌}
 use Rattle.device_run.specs.Run.{lent}
 use Rattle.device_words.specs.declared.Held.{Held}
-use Rattle.svga.specs.Calls.{svgaRun, runHeld}
-use Rattle.svga.proofs.Laws.{put_whole, svga-run-held}
+use Rattle.svga.specs.Calls.{svga_run, run_held}
+use Rattle.svga.proofs.Laws.{put_whole, svga_run_held}
 use Rattle.svga.proofs.svga_run.Statement.{statement}
 use Rattle.svga.proofs.svga_run.Tie as tie
 
@@ -25,15 +25,15 @@ after_run c = c.before.before.before.before.before.before.before
 -- the call goes by what the words spell
 by-spelled : (c : tie.After-spelled-in) (h : Held) → c.spelled-in.result ≡ h → (let a = (start c).args in
     let l = lent a.ring.now a.framebuffer.now a.screen.now a.cursor.now in
-    runHeld a.device.now l a.budget h ≡ svgaRun a.device.now l a.budget)
-by-spelled c h e = svga-run-held _ h (else1 c).if1.false (sym e ∙ c.spelled-in.ensures) _ _
+    run_held a.device.now l a.budget h ≡ svga_run a.device.now l a.budget)
+by-spelled c h e = svga_run_held _ h (else1 c).if1.false (sym e ∙ c.spelled-in.ensures) _ _
 
 returns : tie.Need-returns
-unfolding svgaRun
+unfolding svga_run
 returns c = rw (ne_eqb _ _ c.before.if1.true, c.pack.ensures)
 
 returns-2 : tie.Need-returns-2
-unfolding runHeld
+unfolding run_held
 returns-2 c =
     let put = c.before.before.before.before in
     let run = after_run put.before in
@@ -42,12 +42,12 @@ returns-2 c =
       ← (by-spelled s _ run.before.before.before.before.before.spelled.given.1),
       ← run.run.ensures,
       c.pack2.ensures,
-      c.before.run-number.ensures,
+      c.before.run_number_lem.ensures,
       put_whole _ _ (else1 s).if1.left _ put.put_in.ensures,
     )
 
 returns-3 : tie.Need-returns-3
-unfolding runHeld
+unfolding run_held
 returns-3 c = rw (← (by-spelled c.before.before.before _ c.before.enum_told.given.1), c.pack3.ensures)
 
 pub svga-run-spec : {M : Type 1} → statement M

@@ -4,8 +4,8 @@ use borrow.Author.Rules.{rules}
 use borrow.Author.Tests.{ne_eqb}
 use mathlib.Core.Path.{◌≡◌, sym, ◌∙◌}
 use Rattle.device_words.specs.declared.Held.{Held}
-use Rattle.svga.specs.Calls.{svgaWrite, writeHeld}
-use Rattle.svga.proofs.Laws.{put_whole, svga-write-held}
+use Rattle.svga.specs.Calls.{svga_write, write_held}
+use Rattle.svga.proofs.Laws.{put_whole, svga_write_held}
 use Rattle.svga.proofs.svga_write.Statement.{statement}
 use Rattle.svga.proofs.svga_write.Tie as tie
 
@@ -20,15 +20,15 @@ after-spelled c = c.before.before.before.before
 
 -- the call goes by what the words spell
 by-spelled : (c : tie.After-spelled-in) (h : Held) → c.spelled-in.result ≡ h → (let a = (start c).args in
-    writeHeld a.device.now a.ring.now a.index a.value h ≡ svgaWrite a.device.now a.ring.now a.index a.value)
-by-spelled c h e = svga-write-held _ h (else1 c).if1.false (sym e ∙ c.spelled-in.ensures) _ _ _
+    write_held a.device.now a.ring.now a.index a.value h ≡ svga_write a.device.now a.ring.now a.index a.value)
+by-spelled c h e = svga_write_held _ h (else1 c).if1.false (sym e ∙ c.spelled-in.ensures) _ _ _
 
 returns : tie.Need-returns
-unfolding svgaWrite
+unfolding svga_write
 returns c = rw (ne_eqb _ _ c.if1.true)
 
 returns-2 : tie.Need-returns-2
-unfolding writeHeld
+unfolding write_held
 returns-2 c =
     let put = c.before.before.before in
     let write = put.before.before in
@@ -41,7 +41,7 @@ returns-2 c =
     )
 
 returns-3 : tie.Need-returns-3
-unfolding writeHeld
+unfolding write_held
 returns-3 c = rw (← (by-spelled c.before.before _ c.enum_told.given.1))
 
 pub svga-write-spec : {M : Type 1} → statement M

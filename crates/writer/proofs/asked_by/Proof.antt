@@ -11,10 +11,10 @@ use lib.ListN.{length}
 use Rattle.command.specs.declared.Kind.{Kind}
 use Rattle.command.specs.declared.Kind.TheVariants.{Update, RectFill, RectCopy, RectRopFill, RectRopCopy}
 use Rattle.command.specs.declared.Kind.TheVariants.{DefineAlphaCursor, UpdateVerbose, Fence, Escape, Foreign}
-use Rattle.command.specs.Commands.{entry, kindIn}
+use Rattle.command.specs.Commands.{entry, kind_in}
 use Rattle.command.specs.Findings.{data_of}
 use Rattle.writer.specs.Laying.{asked}
-use Rattle.writer.proofs.Asking.{asks, asks-so, asked-none, asked-empty, asked-fixed, asked-whole}
+use Rattle.writer.proofs.Asking.{asks, asks_so, asked_none, asked_empty, asked_fixed, asked_whole}
 use Rattle.writer.proofs.asked_by.Statement.{statement}
 use Rattle.writer.proofs.asked_by.Tie as tie
 
@@ -30,16 +30,16 @@ module _ (c : tie.After-kind-of) (k : Kind) (told : c.kind-of.result ≡ k) wher
   abbrev carries : ℕ
   carries = (start c).args.carries
 
-  kind : kindIn head ≡ k
+  kind : kind_in head ≡ k
   kind = sym c.kind-of.ensures ∙ told
 
   by-fixed : data_of k ≡ none → (entry k).offered ≡ true
       → asked carries head ≡ cond (eqb (length head) (entry k).head && (entry k).good tt head) (asks (entry k).head 0 0) (asks 0 0 0)
-  by-fixed plain on = asked-fixed carries head k kind plain on (start c).requires
+  by-fixed plain on = asked_fixed carries head k kind plain on (start c).requires
 
   by_whole : data_of k ≡ none → (entry k).offered ≡ true → (entry k).good tt head ≡ true
       → asked carries head ≡ cond (eqb (length head) (entry k).head) (asks (entry k).head 0 0) (asks 0 0 0)
-  by_whole plain on good = asked-whole carries head k kind plain on (start c).requires good
+  by_whole plain on good = asked_whole carries head k kind plain on (start c).requires good
 
 pub asked-by-spec : {M : Type 1} → statement M
 unfolding entry
@@ -47,7 +47,7 @@ asked-by-spec =
     tie.close
     (tie.spec
     (λ c κs. search rules)
-    (λ c. asks-so _ 0 0 0 c.nothing.ensures ∙ sym (asked-empty _ _ c.before.if1.true))
+    (λ c. asks_so _ 0 0 0 c.nothing.ensures ∙ sym (asked_empty _ _ c.before.if1.true))
     (λ c. search rules)
     (λ c κs. search rules)
     (λ c. search rules)
@@ -80,5 +80,5 @@ asked-by-spec =
     (λ c. c.fence-asked.ensures ∙ sym (by-fixed c.before.before.before Fence c.before.enum-told8.given.1 refl refl))
     (λ c. search rules)
     (λ c. let e = c.before.before.before in
-    asks-so _ 0 0 0 c.nothing2.ensures
-    ∙ sym (asked-none _ _ (λ p. let q = p.offered in false≢true (rw (kind e Foreign c.before.enum-told10.given.1) at q)))))
+    asks_so _ 0 0 0 c.nothing2.ensures
+    ∙ sym (asked_none _ _ (λ p. let q = p.offered in false≢true (rw (kind e Foreign c.before.enum-told10.given.1) at q)))))

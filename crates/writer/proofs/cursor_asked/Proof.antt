@@ -8,7 +8,7 @@ use Rattle.command.specs.declared.Kind.TheVariants.{DefineAlphaCursor}
 use Rattle.command.specs.Commands.{entry, shape_at}
 use Rattle.writer.specs.declared.Asked.{Asked}
 use Rattle.writer.specs.Laying.{asked}
-use Rattle.writer.proofs.Asking.{asks, asks-so, asked-other, no_words, some_words}
+use Rattle.writer.proofs.Asking.{asks, asks_so, asked_other, no_words, some_words}
 use Rattle.writer.proofs.cursor_asked.Statement.{statement}
 use Rattle.writer.proofs.cursor_asked.Tie as tie
 
@@ -37,9 +37,9 @@ cursor-asked-spec =
     tie.close
     (tie.spec
     (λ c κs. search rules)
-    (λ c. asks-so _ 0 0 0 c.nothing.ensures ∙ sym (asked-other _ _ DefineAlphaCursor c.before.before.before.requires.1 c.before.if1.true))
+    (λ c. asks_so _ 0 0 0 c.nothing.ensures ∙ sym (asked_other _ _ DefineAlphaCursor c.before.before.before.requires.1 c.before.if1.true))
     (λ c κs. search rules)
     (λ c κs. search rules)
-    (λ c. asks-so _ 0 0 0 c.nothing2.ensures ∙ sym (no_words _ _ (sym c.before.before.long-words.ensures ∙ c.before.if2.true)))
+    (λ c. asks_so _ 0 0 0 c.nothing2.ensures ∙ sym (no_words _ _ (sym c.before.before.long-words.ensures ∙ c.before.if2.true)))
     (λ c. omega (arith, words c))
     (λ c. let w = words c in ap₂ (λ (n m : ℕ). asks n m 0) w (omega arith) ∙ sym (asks-pixels c)))

@@ -9,7 +9,7 @@ use lib.ListN.{length, drop}
 use lib.Seq.{paste}
 use Rattle.ring.specs.Waiting.{ahead}
 use Rattle.ring.proofs.WaitingLaws.{InRing}
-use Rattle.writer.proofs.Laying.{laid-row, laid-wrapped}
+use Rattle.writer.proofs.Laying.{laid_row, laid_wrapped}
 use Rattle.writer.proofs.lay.Statement.{statement}
 use Rattle.writer.proofs.lay.Tie as tie
 
@@ -30,7 +30,7 @@ returns c =
     let d = c.before.before in
     let a = (start d).args in
     let w = a.row.now in (
-      d.lay-row.ensures ∙ sym (laid-row a.lo a.hi a.at w a.ring.now (omega arith) (omega arith)),
+      d.lay-row.ensures ∙ sym (laid_row a.lo a.hi a.at w a.ring.now (omega arith) (omega arith)),
       rw (lt-ltb (a.at + length w) a.hi (omega arith)),
     )
 
@@ -45,7 +45,7 @@ returns-2 c =
     let held : InRing a.lo a.hi a.at (length w) = record { from = omega arith; below = omega arith; held = omega arith } in (
       d.lay-row3.ensures
           ∙ ap (λ l. paste l a.lo (drop some w) (length w - some)) (first d).lay-row2.ensures
-          ∙ laid-wrapped a.lo a.hi a.at w a.ring.now (length w) some refl held (omega arith) refl (omega arith),
+          ∙ laid_wrapped a.lo a.hi a.at w a.ring.now (length w) some refl held (omega arith) refl (omega arith),
       rw (le-ltb (a.at + length w) a.hi (omega arith)) (omega arith),
     )
 

@@ -7,16 +7,16 @@ use native.Mathlib.Numerals.{add-one}
 use lib.ListN.{length, get_or, take, length-set}
 use lib.Seq.{take_all}
 use Rattle.ring.specs.Waiting.{after, ahead}
-use Rattle.ring.proofs.WaitingLaws.{InRing, ahead_in, ahead-zero}
-use Rattle.writer.specs.Writing.{dataWords}
+use Rattle.ring.proofs.WaitingLaws.{InRing, ahead_in, ahead_zero}
+use Rattle.writer.specs.Writing.{data_words}
 use Rattle.writer.specs.Laying.{laid}
-use Rattle.writer.proofs.Laying.{after-ahead, laid-suc, length-data, data-word}
+use Rattle.writer.proofs.Laying.{after_ahead, laid_suc, length_data, data_word}
 use Rattle.writer.proofs.lay_data.Statement.{statement}
 use Rattle.writer.proofs.lay_data.Tie as tie
 
 abbrev invariant-loop : tie.invariant-loop
 invariant-loop ring₀ lo hi at bytes n p₀ j₀ ring p j =
-    (j ≤ n) × (p ≡ ahead lo hi at j) × (ring ≡ laid lo hi at (take j (dataWords bytes)) ring₀) × (length ring ≡ length ring₀)
+    (j ≤ n) × (p ≡ ahead lo hi at j) × (ring ≡ laid lo hi at (take j (data_words bytes)) ring₀) × (length ring ≡ length ring₀)
 
 abbrev decreases-loop : tie.decreases-loop
 decreases-loop ring₀ lo hi at bytes n p₀ j₀ ring p j = n - j
@@ -24,7 +24,7 @@ decreases-loop ring₀ lo hi at bytes n p₀ j₀ ring p j = n - j
 -- no words yet
 loop-holds : tie.Need-loop-init invariant-loop decreases-loop
 unfolding laid
-loop-holds c = let a = c.before.before.args in (omega arith, sym (ahead-zero a.lo a.hi a.at (omega arith)), refl, refl)
+loop-holds c = let a = c.before.before.args in (omega arith, sym (ahead_zero a.lo a.hi a.at (omega arith)), refl, refl)
 
 -- the entry, from the loop
 abbrev start : tie.At-loop invariant-loop decreases-loop → tie.Start invariant-loop decreases-loop
@@ -35,7 +35,7 @@ held : (c : tie.In-loop invariant-loop decreases-loop)
     → InRing (start c.before).args.lo (start c.before).args.hi (start c.before).args.at (c.before.loop.j + 1)
 held c =
     let s = start c.before in
-    let n = length-data s.args.bytes.now in
+    let n = length_data s.args.bytes.now in
     record { from = omega arith; below = omega arith; held = omega arith }
 
 -- and its place is in the ring
@@ -54,14 +54,14 @@ loop-again c =
     let now = l.before.loop in
     let h = held l in
     let so_far : InRing a.lo a.hi a.at now.j = record { from = h.from; below = h.below; held = omega arith } in
-    let n = length-data a.bytes.now in
-    let word : c.before.word-from.result ≡ get_or (dataWords a.bytes.now) now.j 0 =
-    c.before.word-from.ensures ∙ sym (data-word a.bytes.now now.j (omega arith)) in (
+    let n = length_data a.bytes.now in
+    let word : c.before.word-from.result ≡ get_or (data_words a.bytes.now) now.j 0 =
+    c.before.word-from.ensures ∙ sym (data_word a.bytes.now now.j (omega arith)) in (
       omega arith,
-      c.after.ensures ∙ ap (after a.lo a.hi) now.invariant.1 ∙ after-ahead a.lo a.hi a.at now.j h,
+      c.after.ensures ∙ ap (after a.lo a.hi) now.invariant.1 ∙ after_ahead a.lo a.hi a.at now.j h,
       rw (now.invariant.2, now.invariant.1, word)
-          (laid-suc a.lo a.hi a.at (dataWords a.bytes.now) a.ring.now now.j so_far (omega arith)
-          ∙ ap (λ k. laid a.lo a.hi a.at (take k (dataWords a.bytes.now)) a.ring.now) (sym (add-one now.j))),
+          (laid_suc a.lo a.hi a.at (data_words a.bytes.now) a.ring.now now.j so_far (omega arith)
+          ∙ ap (λ k. laid a.lo a.hi a.at (take k (data_words a.bytes.now)) a.ring.now) (sym (add-one now.j))),
       simp length-set now.invariant.3,
     )
 
@@ -70,8 +70,8 @@ returns : tie.Need-returns invariant-loop decreases-loop
 returns c =
     let a = (start c.before).args in
     let now = c.before.loop in
-    let w = dataWords a.bytes.now in
-    let n = length-data a.bytes.now in
+    let w = data_words a.bytes.now in
+    let n = length_data a.bytes.now in
     let e : now.j ≡ length w = omega arith in (
       now.invariant.2 ∙ ap (λ u. laid a.lo a.hi a.at u a.ring.now) (take_all now.j w (omega arith)),
       now.invariant.1 ∙ ap (ahead a.lo a.hi a.at) e,

@@ -2,7 +2,7 @@
 -- Assumes nothing.
 use native.Mathlib.Omega.{arith}
 use lib.ListN.{length-set}
-use Rattle.writer.proofs.Pasting.{stored-paste}
+use Rattle.writer.proofs.Pasting.{stored_paste}
 use Rattle.writer.proofs.lay_four.Statement.{statement}
 use Rattle.writer.proofs.lay_four.Tie as tie
 
@@ -11,7 +11,7 @@ abbrev start : tie.After-shared-slice-known4 → tie.Start
 start c = c.before.before.before.before
 
 returns : tie.Need-returns
-returns c = let a = (start c).args in stored-paste a.ring.now a.at a.row.now a.from 3 (omega arith) (omega arith)
+returns c = let a = (start c).args in stored_paste a.ring.now a.at a.row.now a.from 3 (omega arith) (omega arith)
 
 pub lay-four-spec : {M : Type 1} → statement M
 lay-four-spec =

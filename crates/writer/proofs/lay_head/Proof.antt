@@ -6,7 +6,7 @@ use native.Mathlib.Omega.{arith}
 use borrow.Author.Rules.{rules}
 use lib.ListN.{length, drop, length-set}
 use lib.Seq.{paste}
-use Rattle.writer.proofs.Pasting.{stored-paste, paste-paste}
+use Rattle.writer.proofs.Pasting.{stored_paste, paste_paste}
 use Rattle.writer.proofs.lay_head.Statement.{statement}
 use Rattle.writer.proofs.lay_head.Tie as tie
 
@@ -31,7 +31,7 @@ returns c =
     let all : n - 4 + 4 ≡ n = omega arith in
     d.lay-four2.ensures
     ∙ ap₂ (λ r p. paste r p (drop (n - 4) w) 4) (first d).lay-four.ensures at
-    ∙ paste-paste a.ring.now a.at w 4 (n - 4) (omega arith) (omega arith) (omega arith)
+    ∙ paste_paste a.ring.now a.at w 4 (n - 4) (omega arith) (omega arith) (omega arith)
     ∙ ap (paste a.ring.now a.at w) all
 
 -- three
@@ -39,14 +39,14 @@ returns-2 : tie.Need-returns-2
 returns-2 c =
     let a = (start-2 c.before.before).args in
     let three : 3 ≡ length a.head.now = omega arith in
-    stored-paste a.ring.now a.at a.head.now 0 2 (omega arith) (omega arith) ∙ ap (paste a.ring.now a.at a.head.now) three
+    stored_paste a.ring.now a.at a.head.now 0 2 (omega arith) (omega arith) ∙ ap (paste a.ring.now a.at a.head.now) three
 
 -- two
 returns-3 : tie.Need-returns-3
 returns-3 c =
     let a = (start-2 c.before).args in
     let two : 2 ≡ length a.head.now = omega arith in
-    stored-paste a.ring.now a.at a.head.now 0 1 (omega arith) (omega arith) ∙ ap (paste a.ring.now a.at a.head.now) two
+    stored_paste a.ring.now a.at a.head.now 0 1 (omega arith) (omega arith) ∙ ap (paste a.ring.now a.at a.head.now) two
 
 pub lay-head-spec : {M : Type 1} → statement M
 lay-head-spec =

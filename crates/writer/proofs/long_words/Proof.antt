@@ -3,9 +3,9 @@
 use mathlib.Core.Path.{◌≡◌, sym, ap, ◌∙◌}
 use borrow.Author.Rules.{rules}
 use Rattle.command.specs.declared.Finding.{Finding}
-use Rattle.command.specs.Findings.{asTurn}
+use Rattle.command.specs.Findings.{as_turn}
 use Rattle.writer.specs.Laying.{asked}
-use Rattle.writer.proofs.Asking.{wordsOf, asked-words}
+use Rattle.writer.proofs.Asking.{words_of, asked_words}
 use Rattle.writer.proofs.long_words.Statement.{statement}
 use Rattle.writer.proofs.long_words.Tie as tie
 
@@ -14,11 +14,11 @@ module _ (c : tie.After-data-turn) (finding : Finding) (found : c.data-turn.resu
   abbrev start : tie.Start
   start = c.before.before
 
-  words : wordsOf (asTurn finding) ≡ (asked start.args.carries start.args.head.now).words
+  words : words_of (as_turn finding) ≡ (asked start.args.carries start.args.head.now).words
   words =
-      sym (ap (λ (f : Finding). wordsOf (asTurn f)) found)
-      ∙ ap wordsOf c.data-turn.ensures
-      ∙ asked-words start.args.tail start.args.carries start.args.head.now start.pre.0 start.pre.1 start.pre.2
+      sym (ap (λ (f : Finding). words_of (as_turn f)) found)
+      ∙ ap words_of c.data-turn.ensures
+      ∙ asked_words start.args.tail start.args.carries start.args.head.now start.pre.0 start.pre.1 start.pre.2
 
 pub long-words-spec : {M : Type 1} → statement M
 long-words-spec =

@@ -7,7 +7,7 @@ use borrow.Author.Rules.{rules}
 use borrow.Author.Tests.{lt-ltb}
 use lib.ListN.{length}
 use Rattle.ring.specs.Waiting.{ahead}
-use Rattle.writer.proofs.Laying.{laid-row}
+use Rattle.writer.proofs.Laying.{laid_row}
 use Rattle.writer.proofs.put_head.Statement.{statement}
 use Rattle.writer.proofs.put_head.Tie as tie
 
@@ -22,7 +22,7 @@ returns c =
     let d = c.before.before in
     let a = (start d).args in
     let w = a.head.now in (
-      d.lay-head.ensures ∙ sym (laid-row a.lo a.hi a.at w a.ring.now (omega arith) (omega arith)),
+      d.lay-head.ensures ∙ sym (laid_row a.lo a.hi a.at w a.ring.now (omega arith) (omega arith)),
       rw (lt-ltb (a.at + length w) a.hi (omega arith)),
     )
 

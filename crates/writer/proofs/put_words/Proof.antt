@@ -8,9 +8,9 @@ use borrow.Author.Rules.{rules}
 use lib.ListN.{length, get_or, length-append}
 use Rattle.ring.specs.Waiting.{ahead}
 use Rattle.ring.proofs.WaitingLaws.{InRing}
-use Rattle.writer.specs.Writing.{Command, command, dataWords, commandWords}
+use Rattle.writer.specs.Writing.{Command, command, data_words, command_words}
 use Rattle.writer.specs.Laying.{laid}
-use Rattle.writer.proofs.Laying.{laid-below, others-in, laid_both, behind-both, command-bare}
+use Rattle.writer.proofs.Laying.{laid_below, others_in, laid_both, behind_both, command_bare}
 use Rattle.writer.proofs.put_words.Statement.{statement}
 use Rattle.writer.proofs.put_words.Tie as tie
 
@@ -32,11 +32,11 @@ abbrev given : tie.Start → Command
 given s = command s.args.head.now s.args.pixels.now s.args.bytes.now
 
 abbrev rest : tie.Start → List ℕ
-rest s = s.args.pixels.now ++ dataWords s.args.bytes.now
+rest s = s.args.pixels.now ++ data_words s.args.bytes.now
 
 -- all its words are less than the ring
 all_held : (s : tie.Start) → length (s.args.head.now ++ rest s) + s.args.lo < s.args.hi
-unfolding commandWords
+unfolding command_words
 all_held s = s.requires.1.3
 
 held : (s : tie.Start) → InRing s.args.lo s.args.hi s.args.at (length (s.args.head.now ++ rest s))
@@ -71,7 +71,7 @@ module _ (c : tie.After-put-head) where
 
   -- the rest is in the ring
   rest_in : InRing lo hi c.put-head.result (length (rest entry))
-  rest_in = others-in lo hi at head (rest entry) c.put-head.result (held entry) c.put-head.ensures.1
+  rest_in = others_in lo hi at head (rest entry) c.put-head.result (held entry) c.put-head.ensures.1
 
   -- and it is less than the ring
   rest-held : length (rest entry) + lo < hi
@@ -83,26 +83,26 @@ module _ (c : tie.After-put-head) where
   -- the contract, of a ring left and a place answered
   abbrev Put : List ℕ → ℕ → Type 0
   Put left r =
-      (left ≡ laid lo hi at (commandWords (given entry)) ring)
-      × ((r ≡ ahead lo hi at (length (commandWords (given entry)))) × ((i : ℕ) → i < 4 → get_or left i 0 ≡ get_or ring i 0))
+      (left ≡ laid lo hi at (command_words (given entry)) ring)
+      × ((r ≡ ahead lo hi at (length (command_words (given entry)))) × ((i : ℕ) → i < 4 → get_or left i 0 ≡ get_or ring i 0))
 
-  put : (left : List ℕ) (r : ℕ) → left ≡ laid lo hi at (commandWords (given entry)) ring
-      → r ≡ ahead lo hi at (length (commandWords (given entry))) → Put left r
+  put : (left : List ℕ) (r : ℕ) → left ≡ laid lo hi at (command_words (given entry)) ring
+      → r ≡ ahead lo hi at (length (command_words (given entry))) → Put left r
   put left r stored behind = (
     stored,
-    (behind, λ i l. ap (λ w. get_or w i 0) stored ∙ laid-below lo hi at (commandWords (given entry)) ring i (omega arith) (omega arith) (omega arith)),
+    (behind, λ i l. ap (λ w. get_or w i 0) stored ∙ laid_below lo hi at (command_words (given entry)) ring i (omega arith) (omega arith) (omega arith)),
   )
 
   -- with the rest stored behind the head
   put_both : (left : List ℕ) (r : ℕ) → left ≡ laid lo hi c.put-head.result (rest entry) c.put-head.new.0
       → r ≡ ahead lo hi c.put-head.result (length (rest entry)) → Put left r
-  unfolding commandWords
+  unfolding command_words
   put_both left r stored behind =
       put left r
       (stored
       ∙ ap (laid lo hi c.put-head.result (rest entry)) c.put-head.ensures.0
       ∙ laid_both lo hi at head (rest entry) c.put-head.result (held entry) c.put-head.ensures.1 ring)
-      (behind ∙ behind-both lo hi at head (rest entry) c.put-head.result (held entry) c.put-head.ensures.1)
+      (behind ∙ behind_both lo hi at head (rest entry) c.put-head.result (held entry) c.put-head.ensures.1)
 
 put-rest-requires : tie.Need-put-rest-requires
 put-rest-requires c κs =
@@ -129,7 +129,7 @@ returns-3 : tie.Need-returns-3
 returns-3 c =
     let d = headed-3 c in
     let s = entry d in
-    let bare = sym (command-bare (given s) (omega arith) (omega arith)) in
+    let bare = sym (command_bare (given s) (omega arith) (omega arith)) in
     put d _ _
     (d.put-head.ensures.0 ∙ ap (λ w. laid (lo d) (hi d) (at d) w (ring d)) bare)
     (d.put-head.ensures.1 ∙ ap (λ w. ahead (lo d) (hi d) (at d) (length w)) bare)

@@ -5,10 +5,10 @@ use Prim.Native.Nat.{◌/◌}
 use native.Mathlib.Omega.{arith}
 use borrow.Author.Rules.{rules}
 use borrow.Author.Tests.{le-leb, lt-leb}
-use Rattle.ring.specs.Acceptance.{next_of, stopOf, Usable}
+use Rattle.ring.specs.Acceptance.{next_of, stop_of, Usable}
 use Rattle.ring.specs.Waiting.{between}
-use Rattle.ring.proofs.Laws.{usable-when}
-use Rattle.writer.specs.Writing.{freeWords}
+use Rattle.ring.proofs.Laws.{usable_when}
+use Rattle.writer.specs.Writing.{free_words}
 use Rattle.writer.proofs.room_in.Statement.{statement}
 use Rattle.writer.proofs.room_in.Tie as tie
 
@@ -17,24 +17,24 @@ abbrev start : tie.After-shared-slice-known4 → tie.Start
 start c = c.before.before.before.before
 
 known : (c : tie.Start) → Usable c.args.ring.now
-known c = usable-when _ c.requires
+known c = usable_when _ c.requires
 
 -- those that wait do not wrap
 returns : tie.Need-returns
-unfolding freeWords between
+unfolding free_words between
 returns c =
     let s = start c.before in
     let ring = s.args.ring.now in
-    (refl, refl, refl, rw (le-leb (stopOf ring / 4) (next_of ring / 4) c.if1.true))
+    (refl, refl, refl, rw (le-leb (stop_of ring / 4) (next_of ring / 4) c.if1.true))
 
 -- they wrap
 returns-2 : tie.Need-returns-2
-unfolding freeWords between
+unfolding free_words between
 returns-2 c =
     let s = start c.before in
     let u = known s in
     let ring = s.args.ring.now in
-    (refl, refl, refl, rw (lt-leb (stopOf ring / 4) (next_of ring / 4) c.if1.false) (omega arith))
+    (refl, refl, refl, rw (lt-leb (stop_of ring / 4) (next_of ring / 4) c.if1.false) (omega arith))
 
 pub room-in-spec : {M : Type 1} → statement M
 room-in-spec =

@@ -11,16 +11,16 @@ use lib.Dec.{eqb}
 use lib.ListN.{length, set}
 use Rattle.ring.specs.Acceptance.{usable, Usable}
 use Rattle.ring.specs.Waiting.{ahead, carried}
-use Rattle.ring.proofs.Laws.{usable-when}
-use Rattle.cursor.specs.Plane.{imageWords}
+use Rattle.ring.proofs.Laws.{usable_when}
+use Rattle.cursor.specs.Plane.{image_words}
 use Rattle.ring.proofs.WaitingLaws.{InRing, ahead_in}
 use Rattle.writer.specs.declared.Room.{Room}
 use Rattle.writer.specs.declared.WriterAnswer.TheVariants.{Taken}
-use Rattle.writer.specs.Writing.{Command, command, commandWords, carriedIn, freeWords, written}
+use Rattle.writer.specs.Writing.{Command, command, command_words, carried_in, free_words, written}
 use Rattle.writer.specs.Laying.{asked}
-use Rattle.writer.proofs.RoomLaws.{free-waiting}
-use Rattle.writer.proofs.Ends.{write-unusable, write-no-command, write-other-length, write-no-room, write-taken}
-use Rattle.writer.proofs.Ends.{few_words, few-pixels, all_words, few_bytes}
+use Rattle.writer.proofs.RoomLaws.{free_waiting}
+use Rattle.writer.proofs.Ends.{write_unusable, write_no_command, write_other_length, write_no_room, write_taken}
+use Rattle.writer.proofs.Ends.{few_words, few_pixels, all_words, few_bytes}
 use Rattle.writer.proofs.write.Statement.{statement}
 use Rattle.writer.proofs.write.Tie as tie
 
@@ -60,14 +60,14 @@ stored c = c.before.before.before
 -- ---- the tests
 
 returns : tie.Need-returns
-returns c = write-unusable _ _ (sym c.before.is-usable.ensures ∙ not-true _ c.if1.true)
+returns c = write_unusable _ _ (sym c.before.is-usable.ensures ∙ not-true _ c.if1.true)
 
 -- past the first
 good : (c : tie.Else1) → usable (start c.before).args.ring.now ≡ true
 good c = sym c.before.is-usable.ensures ∙ not-false _ c.if1.false
 
 known : (c : tie.Else1) → Usable (start c.before).args.ring.now
-known c = usable-when _ (good c)
+known c = usable_when _ (good c)
 
 -- what the head asks for
 module _ (c : tie.After-asked-by) where
@@ -83,30 +83,30 @@ module _ (c : tie.After-asked-by) where
   fine : usable ring ≡ true
   fine = good (tested c.before)
 
-  is : c.asked_by.result ≡ asked (carriedIn ring) given.head
+  is : c.asked_by.result ≡ asked (carried_in ring) given.head
   is = let e = c.before.room_in.ensures in c.asked_by.ensures ∙ ap₂ (λ lo hi. asked (carried lo hi) given.head) e.0 e.1
 
 returns-2 : tie.Need-returns-2
-returns-2 c = let a = asking c.before in write-no-command (ring a) (given a) (fine a) _ (is a) c.if2.true
+returns-2 c = let a = asking c.before in write_no_command (ring a) (given a) (fine a) _ (is a) c.if2.true
 
 returns-3 : tie.Need-returns-3
 returns-3 c =
     let some = c.before in
     let l = lending some in
     let a = asking l in
-    write-other-length (ring a) (given a) (fine a) _ (is a) some.if2.false (sym l.lent-good.ensures ∙ not-true _ c.if3.true)
+    write_other_length (ring a) (given a) (fine a) _ (is a) some.if2.false (sym l.lent_good_lem.ensures ∙ not-true _ c.if3.true)
 
 -- past the third: as many pixels and bytes as it asks for
 equal : (c : tie.Else3) → let a = asking (lending (commands c)) in
     eqb (length (given a).pixels) a.asked_by.result.pixels && eqb (length (given a).bytes) a.asked_by.result.bytes ≡ true
-equal c = sym (lending (commands c)).lent-good.ensures ∙ not-false _ c.if3.false
+equal c = sym (lending (commands c)).lent_good_lem.ensures ∙ not-false _ c.if3.false
 
 returns-4 : tie.Need-returns-4
 returns-4 c =
     let lent = c.before in
     let some = commands lent in
     let a = asking (lending some) in
-    write-no-room (ring a) (given a) (fine a) _ (is a) some.if2.left (equal lent) (omega (arith, c.if4.true, a.before.room_in.ensures.3))
+    write_no_room (ring a) (given a) (fine a) _ (is a) some.if2.left (equal lent) (omega (arith, c.if4.true, a.before.room_in.ensures.3))
 
 -- ---- past the last
 
@@ -123,17 +123,17 @@ module _ (c : tie.Else4) where
   abbrev place : Room
   place = by.before.room_in.result
 
-  free : by.asked_by.result.words ≤ freeWords (ring by)
+  free : by.asked_by.result.words ≤ free_words (ring by)
   free = omega (arith, c.if4.false, by.before.room_in.ensures.3)
 
-  size : length (commandWords (given by)) ≡ by.asked_by.result.words
+  size : length (command_words (given by)) ≡ by.asked_by.result.words
   size = all_words (ring by) (given by) (fine by) _ (is by) some.if2.left (equal lent)
 
   whole : (2 ≤ length (given by).head) × (length (given by).head ≤ 8)
   whole = few_words (ring by) (given by) (fine by) _ (is by) some.if2.left
 
-  image : length (given by).pixels ≤ imageWords
-  image = few-pixels (ring by) (given by) (fine by) _ (is by) some.if2.left (equal lent)
+  image : length (given by).pixels ≤ image_words
+  image = few_pixels (ring by) (given by) (fine by) _ (is by) some.if2.left (equal lent)
 
   few : length (given by).bytes ≤ 4294967295
   few =
@@ -141,16 +141,16 @@ module _ (c : tie.Else4) where
       (omega (arith, (head-known (tested by.before).before).shared-slice-known.given 2))
 
   -- "never filling the last word"
-  held : InRing place.lo place.hi place.next (length (commandWords (given by)) + 1)
+  held : InRing place.lo place.hi place.next (length (command_words (given by)) + 1)
   held =
       let u = known (tested by.before) in
       let e = by.before.room_in.ensures in
-      let all = free-waiting (ring by) u in
+      let all = free_waiting (ring by) u in
       record { from = omega arith; below = omega arith; held = omega (arith, free, size) }
 
-  behind : ahead place.lo place.hi place.next (length (commandWords (given by))) < place.hi
+  behind : ahead place.lo place.hi place.next (length (command_words (given by))) < place.hi
   behind =
-      (ahead_in place.lo place.hi place.next (length (commandWords (given by)))
+      (ahead_in place.lo place.hi place.next (length (command_words (given by)))
       (record { from = held.from; below = held.below; held = omega (arith, held.held) })
       ).1
 
@@ -182,7 +182,7 @@ returns-5 c =
     let a = by e in
     let r = a.before.room_in.ensures in
     ap (written Taken) (d.publish.ensures ∙ ap₂ (λ l k. set l 2 (k * 4)) p.put-words.ensures.0 p.put-words.ensures.1.0)
-    ∙ write-taken (ring a) (given a) (fine a) _ (is a) (some e).if2.left (equal (lent e)) (free e)
+    ∙ write_taken (ring a) (given a) (fine a) _ (is a) (some e).if2.left (equal (lent e)) (free e)
     (place e).lo (place e).hi (place e).next r.0 r.1 r.2
 
 pub write_spec : {M : Type 1} → statement M
