@@ -1,4 +1,6 @@
 // The device: making, registers, run, picture, offscreen rectangle, fences.
+#![tactic(auto)]
+
 ghost use Rattle.std.specs.Prelude.{◌≡◌};
 ghost use Rattle.device.specs.Device.{defined_of};
 ghost use Rattle.adapter.specs.Picture.{picture_number, pictured, cursor_over, lengths_good, picture_of};
@@ -17,7 +19,7 @@ pub use offscreen::{Edges, offscreen};
 pub use register_read::{Value, read};
 pub use register_write::{WriteAnswer, Written, write, write_number};
 
-#[derive(Drop)]
+#[derive(Clone, Copy)]
 pub enum PictureAnswer {
     Taken,
     WrongLength,

@@ -1,4 +1,6 @@
 // Document 01's numbers to hold against the definitions, and its impostors. The theorems are in proofs/.
+#![tactic(auto)]
+
 ghost use Rattle.std.specs.Prelude.{◌≡◌, length};
 ghost use Rattle.cases.specs.Cases.{cases};
 

@@ -1,4 +1,6 @@
 // Document 01's nine commands: their numbers, and what a turn finds in words that begin with one. Needs no ring, device or screen.
+#![tactic(auto)]
+
 ghost use Rattle.std.specs.Prelude.{◌≡◌, ◌+◌, ◌≤◌, length, get_or};
 ghost use Rattle.command.specs.Commands.{entry, kind_of, kind_in, rect_at, source_at, shape_at};
 ghost use Rattle.command.specs.declared.Kind.TheVariants.{Update, RectFill, RectCopy, RectRopFill, RectRopCopy, UpdateVerbose, Fence};
@@ -10,7 +12,7 @@ use execution::{Cause, End};
 use geometry::Rect;
 
 // The commands that are offered, and every other number.
-#[derive(Drop)]
+#[derive(Clone, Copy)]
 pub enum Kind {
     Update,
     RectFill,
@@ -25,14 +27,14 @@ pub enum Kind {
 }
 
 // The top left pixel of a copy's source.
-#[derive(Drop)]
+#[derive(Clone, Copy)]
 pub struct Source {
     pub x: u32,
     pub y: u32,
 }
 
 // What executing a command does. A plain fill or copy is raster operation 3, and a verbose update an update.
-#[derive(Drop)]
+#[derive(Clone, Copy)]
 pub enum Action {
     Update(Rect),
     Fill(Rect, u32, u32),
@@ -43,14 +45,14 @@ pub enum Action {
 }
 
 // The commands with data behind their head.
-#[derive(Drop)]
+#[derive(Clone, Copy)]
 pub enum Data {
     Cursor,
     Escape,
 }
 
 // What the front of a row of words says: a command and the number of its words; too few words; a fault; a command with data behind its head.
-#[derive(Drop)]
+#[derive(Clone, Copy)]
 pub enum Step {
     Does(Action, usize),
     Short,
@@ -59,7 +61,7 @@ pub enum Step {
 }
 
 // What a turn finds: how it ends, or what it executes and the number of the command's words.
-#[derive(Drop)]
+#[derive(Clone, Copy)]
 pub enum Finding {
     Ends(End),
     Executes(Action, u64),

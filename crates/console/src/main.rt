@@ -1,16 +1,18 @@
 // The console: reads requests from standard input, a line each, and prints the answers. What is read and what is printed
 // is `console_session`'s; here are the calls of read and write.
+#![tactic(auto)]
+
 ghost use Rattle.std.specs.Prelude.{◌≤◌, ◌≡◌, ◌&&◌, ltb, length, take};
-ghost use Rattle.device_run.specs.Run.{lent_before, lent_after};
+ghost use Rattle.device_run.specs.Run.{lent};
 ghost use Rattle.console_answers.specs.Put.{put_at};
-ghost use Rattle.console_session.specs.Session.{state_before, state_after, unprinted, fed_all, ended, flushed, Within, HasRoom, Served};
+ghost use Rattle.console_session.specs.Session.{state_of, unprinted, fed_all, ended, flushed, Within, Served};
 
 use console_session::{PIXELS, RING_WORDS, Session, Start};
 use cursor::IMAGE_WORDS;
 use libc::{STDIN_FILENO, STDOUT_FILENO};
 
 // A session, the bytes that were read for it, and whether there may be more.
-#[derive(Drop)]
+#[derive(Clone, Copy)]
 struct Step {
     session: Session,
     read: usize,
@@ -53,9 +55,9 @@ fn turn(
     out: &mut [u8],
 ) -> Step
     requires { Within s (length buffer.old) (length line.old) (length out.old) }
-    ensures out_value { state_after result.session line (lent_after ring framebuffer screen cursor) out
-        ≡ flushed (fed_all (state_before s line (lent_before ring framebuffer screen cursor) out) (take result.read buffer.new)) }
-    ensures has_room { HasRoom result.session (length buffer.old) line out }
+    ensures state { state_of result.session line.new (lent ring.new framebuffer.new screen.new cursor.new) out.new
+        ≡ flushed (fed_all (state_of s line.old (lent ring.old framebuffer.old screen.old cursor.old) out.old) (take result.read buffer.new)) }
+    ensures room { Within result.session (length buffer.old) (length line.old) (length out.old) }
 {
     let n = fill(buffer);
     let fed = console_session::feed(
@@ -92,9 +94,9 @@ fn serve(
     out: &mut [u8],
 ) -> Session
     requires { Within s (length buffer.old) (length line.old) (length out.old) }
-    ensures served { Served (state_before s line (lent_before ring framebuffer screen cursor) out)
-        (state_after result line (lent_after ring framebuffer screen cursor) out) }
-    ensures has_room { HasRoom result (length buffer.old) line out }
+    ensures served { Served (state_of s line.old (lent ring.old framebuffer.old screen.old cursor.old) out.old)
+        (state_of result line.new (lent ring.new framebuffer.new screen.new cursor.new) out.new) }
+    ensures room { Within result (length buffer.old) (length line.old) (length out.old) }
 {
     let mut session = s;
     let mut turns = u64::MAX;
@@ -127,10 +129,10 @@ fn end(
     out: &mut [u8],
 )
     requires { Within s 1 (length line.now) (length out.old) }
-    ensures cursor_value { lent_after ring framebuffer screen cursor
-        ≡ (ended (state_before s line (lent_before ring framebuffer screen cursor) out)).console.lent }
+    ensures cursor_value { lent ring.new framebuffer.new screen.new cursor.new
+        ≡ (ended (state_of s line.now (lent ring.old framebuffer.old screen.old cursor.old) out.old)).console.lent }
     ensures out_after { out.new
-        ≡ put_at out.old s.printed (ended (unprinted s line (lent_before ring framebuffer screen cursor))).printed }
+        ≡ put_at out.old s.printed (ended (unprinted s line.now (lent ring.old framebuffer.old screen.old cursor.old))).printed }
 {
     let ended = console_session::finish(s, line, ring, framebuffer, screen, cursor, out);
     write_out(out, ended.printed);

@@ -1,4 +1,6 @@
 // The console's answers, and their text.
+#![tactic(auto)]
+
 ghost use Rattle.std.specs.Prelude.{◌+◌, ◌≤◌, ◌<◌, [], ◌∷◌, ◌++◌, length};
 ghost use Rattle.console_answers.specs.Text.{decimal_of, text_of, word_bad, word_full};
 ghost use Rattle.console_answers.specs.Put.{Put, shown};
@@ -6,7 +8,7 @@ ghost use Rattle.console_answers.specs.Parts.{numbers_of};
 ghost use Rattle.console_lines.specs.Lines.{word_run};
 
 // What a request is answered with: a register and the answer or its value, a run's answer and count, a place of the screen and its pixel.
-#[derive(Drop)]
+#[derive(Clone, Copy)]
 pub enum ConsoleAnswer {
     Written(u32, u32),
     Value(u32, u32),

@@ -1,10 +1,12 @@
 // A line of the console, taken apart: a request, or a bad line.
+#![tactic(auto)]
+
 ghost use Rattle.std.specs.Prelude.{◌≡◌, ℕ, ◌<◌, [], ◌∷◌, eqb};
 ghost use Rattle.console_lines.specs.Lines.{fields, number_of, same, word_run, with_one, with_two, request_in, request_of};
 ghost use Rattle.console_lines.specs.Parts.{told, TabAt};
 
 // What a line asks for.
-#[derive(Drop)]
+#[derive(Clone, Copy)]
 pub enum Request {
     Write(u32, u32),
     Read(u32),
@@ -16,7 +18,7 @@ pub enum Request {
 }
 
 // The number of a field, or none.
-#[derive(Drop)]
+#[derive(Clone, Copy)]
 enum Number {
     Is(u32),
     Not,

@@ -4,7 +4,7 @@ use Rattle.console_lines.specs.Lines.{request_of}
 use Rattle.console_answers.specs.Text.{text_of}
 use Rattle.console_answers.specs.Put.{Put}
 use Rattle.device.specs.declared.Device.{Device}
-use Rattle.device_run.specs.Run.{Lent, Slice}
+use Rattle.device_run.specs.Run.{Lent}
 use Rattle.console_session.specs.declared.Session.{Session}
 use Rattle.console_session.specs.Console.{Console, Performed, console_of, performed, start}
 use Rattle.console_session.specs.declared.Start.TheVariants.{Ready}
@@ -65,13 +65,6 @@ joined (chunk ∷ chunks) = chunk ++ joined chunks
 abbrev pub state_of : Session → List ℕ → Lent → List ℕ → State
 state_of s line l out = record { console = console_of s.device l; held = take s.held line; printed = take s.printed out }
 
--- The same at a call's entry, and at its exit.
-abbrev pub state_before : Session → Slice → Lent → Slice → State
-state_before s line l out = state_of s line.entry.now l out.entry.now
-
-abbrev pub state_after : Session → Slice → Lent → Slice → State
-state_after s line l out = state_of s line.exit.now l out.exit.now
-
 -- The line has 32 bytes, and out has room for the answers to n lines, each of at most 26 bytes.
 unfoldable pub fits : Session → ℕ → ℕ → ℕ → Bool
 fits s n line out = eqb line 32 && (leb s.held 32 && leb (s.printed + 26 * n) out)
@@ -82,13 +75,9 @@ pub record Within (s : Session) (n line out : ℕ) : Type 0 where
   pub held : s.held ≤ 32
   pub room : s.printed + 26 * n ≤ out
 
--- The same of a call's line and text.
-abbrev pub HasRoom : Session → ℕ → Slice → Slice → Type 0
-HasRoom s n line out = Within s n (length line.entry.now) (length out.entry.now)
-
 -- Where there is no room for n lines, a call leaves what it found.
-abbrev pub if_room : {A : Type 0} → Session → ℕ → Slice → Slice → A → A → A
-if_room s n line out = cond (fits s n (length line.entry.now) (length out.entry.now))
+abbrev pub if_room : {A : Type 0} → Session → ℕ → List ℕ → List ℕ → A → A → A
+if_room s n line out = cond (fits s n (length line) (length out))
 
 -- What was printed is written out.
 abbrev pub emptied : Session → Session
@@ -105,8 +94,8 @@ abbrev pub line_with : ℕ → List ℕ → Line
 line_with held bytes = record { held = held; bytes = bytes }
 
 -- The same of a session at a call's entry.
-abbrev pub line_before : Session → Slice → Line
-line_before s line = line_with s.held line.entry.now
+abbrev pub line_before : Session → List ℕ → Line
+line_before s line = line_with s.held line
 
 -- The line's end: no byte is held, and all stay as they are.
 abbrev pub rested : Line → Line
@@ -125,17 +114,13 @@ line_fed l [] = l
 line_fed l (b ∷ bs) = line_fed (line_byte l b) bs
 
 -- The state at a call's entry, as if nothing were printed: what is printed from there on is what the call prints.
-abbrev pub unprinted : Session → Slice → Lent → State
-unprinted s line l = record { console = console_of s.device l; held = take s.held line.entry.now; printed = [] }
+abbrev pub unprinted : Session → List ℕ → Lent → State
+unprinted s line l = record { console = console_of s.device l; held = take s.held line; printed = [] }
 
 -- What is left of the line, and of out: a text printed stands behind what was printed before, and every other byte is as it was.
 pub record Buffers (s r : Session) (bytes before after : List ℕ) (l : Line) (text : List ℕ) : Type 0 where
   pub line : line_with r.held bytes ≡ l
   pub out : Put before s.printed text after r.printed
-
--- The same of a call.
-abbrev pub Leaves : Session → Session → Slice → Slice → Line → List ℕ → Type 0
-Leaves s r line out = Buffers s r line.exit.now out.entry.now out.exit.now
 
 -- What reads leave: there are chunks, whatever they are, of which each was fed and its text written out.
 pub record Served (s t : State) : Type 0 where

@@ -1,14 +1,16 @@
 // The console: requests on a device and its memories, and a session that is fed its input byte by byte.
+#![tactic(auto)]
+
 ghost use Rattle.std.specs.Prelude.{◌+◌, ◌*◌, ◌≤◌, ◌≡◌, [], length, get_or, set, take};
 ghost use Rattle.ring.specs.Append.{append_of};
 ghost use Rattle.device.specs.Device.{fresh};
 ghost use Rattle.register_read.specs.Registers.{read_of};
 ghost use Rattle.register_write.specs.Registers.{written};
-ghost use Rattle.device_run.specs.Run.{lent_before, lent_after};
+ghost use Rattle.device_run.specs.Run.{lent};
 ghost use Rattle.console_lines.specs.declared.Request.TheVariants.{Run};
 ghost use Rattle.console_session.specs.Console.{performed, console_of, memory, pixels, ring_start, performed_of};
-ghost use Rattle.console_session.specs.Session.{state_before, state_after, answered, kept, fed, fed_all, ended, fits, Within, HasRoom, if_room, emptied, ready_with};
-ghost use Rattle.console_session.specs.Session.{line_with, line_before, rested, line_kept, line_byte, line_fed, unprinted, Leaves};
+ghost use Rattle.console_session.specs.Session.{state_of, answered, kept, fed, fed_all, ended, fits, Within, if_room, emptied, ready_with};
+ghost use Rattle.console_session.specs.Session.{line_with, line_before, rested, line_kept, line_byte, line_fed, unprinted, Buffers};
 ghost use Rattle.console_session.specs.Parts.{keeping_of, written_of, append_answer};
 
 use adapter::{Device, Making, Value};
@@ -24,21 +26,21 @@ pub const RING_WORDS: usize = 2564;
 pub const PIXELS: u32 = 1024;
 
 // What a request leaves and is answered with.
-#[derive(Drop)]
+#[derive(Clone, Copy)]
 pub struct Performed {
     pub device: Device,
     pub answer: ConsoleAnswer,
 }
 
 // A console between two bytes of its input: the device, how many bytes of the line are held, and how many of the text are printed.
-#[derive(Drop)]
+#[derive(Clone, Copy)]
 pub struct Session {
     device: Device,
     held: usize,
     pub printed: usize,
 }
 
-#[derive(Drop)]
+#[derive(Clone, Copy)]
 pub enum Start {
     Ready(Session),
     Refused,
@@ -112,8 +114,8 @@ fn run_device(
     cursor: &mut [u32],
     budget: u32,
 ) -> Performed
-    ensures { performed_of result (lent_after ring framebuffer screen cursor)
-        ≡ performed (console_of d (lent_before ring framebuffer screen cursor)) (Run budget) }
+    ensures { performed_of result (lent ring.new framebuffer.now screen.new cursor.new)
+        ≡ performed (console_of d (lent ring.old framebuffer.now screen.old cursor.old)) (Run budget) }
 {
     let r = adapter::run(d, ring, framebuffer, screen, cursor, budget);
     let number = r.answer;
@@ -132,8 +134,8 @@ pub fn perform(
     screen: &mut [u32],
     cursor: &mut [u32],
 ) -> Performed
-    ensures { performed_of result (lent_after ring framebuffer screen cursor)
-        ≡ performed (console_of d (lent_before ring framebuffer screen cursor)) request }
+    ensures { performed_of result (lent ring.new framebuffer.new screen.new cursor.new)
+        ≡ performed (console_of d (lent ring.old framebuffer.old screen.old cursor.old)) request }
 {
     match request {
         Request::Write(index, value) => return write_register(d, ring, index, value),
@@ -165,11 +167,11 @@ fn answer_line(
     out: &mut [u8],
 ) -> Session
     requires { Within s 1 (length line.now) (length out.old) }
-    ensures out_value { state_after result line (lent_after ring framebuffer screen cursor) out
-        ≡ answered (state_before s line (lent_before ring framebuffer screen cursor) out) }
-    ensures leaves { Leaves s result line out (rested (line_before s line))
-        (answered (unprinted s line (lent_before ring framebuffer screen cursor))).printed }
-    ensures has_room { HasRoom result 0 line out }
+    ensures state { state_of result line.now (lent ring.new framebuffer.new screen.new cursor.new) out.new
+        ≡ answered (state_of s line.now (lent ring.old framebuffer.old screen.old cursor.old) out.old) }
+    ensures buffers { Buffers s result line.now out.old out.new (rested (line_before s line.now))
+        (answered (unprinted s line.now (lent ring.old framebuffer.old screen.old cursor.old))).printed }
+    ensures room { Within result 0 (length line.now) (length out.old) }
     ensures printed_bound { result.printed ≤ s.printed + 26 }
 {
     let held = s.held;
@@ -212,11 +214,11 @@ fn feed_byte(
     out: &mut [u8],
 ) -> Session
     requires { Within s 1 (length line.old) (length out.old) }
-    ensures out_value { state_after result line (lent_after ring framebuffer screen cursor) out
-        ≡ fed (state_before s line (lent_before ring framebuffer screen cursor) out) b }
-    ensures leaves { Leaves s result line out (line_byte (line_before s line) b)
-        (fed (unprinted s line (lent_before ring framebuffer screen cursor)) b).printed }
-    ensures has_room { HasRoom result 0 line out }
+    ensures state { state_of result line.new (lent ring.new framebuffer.new screen.new cursor.new) out.new
+        ≡ fed (state_of s line.old (lent ring.old framebuffer.old screen.old cursor.old) out.old) b }
+    ensures buffers { Buffers s result line.new out.old out.new (line_byte (line_before s line.old) b)
+        (fed (unprinted s line.old (lent ring.old framebuffer.old screen.old cursor.old)) b).printed }
+    ensures room { Within result 0 (length line.old) (length out.old) }
     ensures printed_bound { result.printed ≤ s.printed + 26 }
 {
     if b == b'\n' {
@@ -237,11 +239,11 @@ fn feed_bytes(
     out: &mut [u8],
 ) -> Session
     requires { Within s (length chunk.now) (length line.old) (length out.old) }
-    ensures out_value { state_after result line (lent_after ring framebuffer screen cursor) out
-        ≡ fed_all (state_before s line (lent_before ring framebuffer screen cursor) out) chunk.now }
-    ensures leaves { Leaves s result line out (line_fed (line_before s line) chunk.now)
-        (fed_all (unprinted s line (lent_before ring framebuffer screen cursor)) chunk.now).printed }
-    ensures has_room { HasRoom result 0 line out }
+    ensures state { state_of result line.new (lent ring.new framebuffer.new screen.new cursor.new) out.new
+        ≡ fed_all (state_of s line.old (lent ring.old framebuffer.old screen.old cursor.old) out.old) chunk.now }
+    ensures buffers { Buffers s result line.new out.old out.new (line_fed (line_before s line.old) chunk.now)
+        (fed_all (unprinted s line.old (lent ring.old framebuffer.old screen.old cursor.old)) chunk.now).printed }
+    ensures room { Within result 0 (length line.old) (length out.old) }
 {
     let mut t = s;
     let mut i = 0;
@@ -310,14 +312,14 @@ pub fn feed(
     cursor: &mut [u32],
     out: &mut [u8],
 ) -> Session
-    ensures out_value { state_after result line (lent_after ring framebuffer screen cursor) out
-        ≡ if_room s (length chunk.now) line out (fed_all (state_before s line (lent_before ring framebuffer screen cursor) out) chunk.now)
-        (state_before s line (lent_before ring framebuffer screen cursor) out) }
-    ensures leaves { Leaves s result line out
-        (if_room s (length chunk.now) line out (line_fed (line_before s line) chunk.now) (line_before s line))
-        (if_room s (length chunk.now) line out
-        (fed_all (unprinted s line (lent_before ring framebuffer screen cursor)) chunk.now).printed []) }
-    ensures has_room { HasRoom s (length chunk.now) line out → HasRoom result 0 line out }
+    ensures state { state_of result line.new (lent ring.new framebuffer.new screen.new cursor.new) out.new
+        ≡ if_room s (length chunk.now) line.old out.old (fed_all (state_of s line.old (lent ring.old framebuffer.old screen.old cursor.old) out.old) chunk.now)
+        (state_of s line.old (lent ring.old framebuffer.old screen.old cursor.old) out.old) }
+    ensures buffers { Buffers s result line.new out.old out.new
+        (if_room s (length chunk.now) line.old out.old (line_fed (line_before s line.old) chunk.now) (line_before s line.old))
+        (if_room s (length chunk.now) line.old out.old
+        (fed_all (unprinted s line.old (lent ring.old framebuffer.old screen.old cursor.old)) chunk.now).printed []) }
+    ensures room { Within s (length chunk.now) (length line.old) (length out.old) → Within result 0 (length line.old) (length out.old) }
 {
     let good = room_for(s, chunk.len(), line.len(), out.len());
     if !good {
@@ -338,12 +340,12 @@ pub fn finish(
     cursor: &mut [u32],
     out: &mut [u8],
 ) -> Session
-    ensures out_value { state_after result line (lent_after ring framebuffer screen cursor) out
-        ≡ if_room s 1 line out (ended (state_before s line (lent_before ring framebuffer screen cursor) out))
-        (state_before s line (lent_before ring framebuffer screen cursor) out) }
-    ensures leaves { Leaves s result line out (if_room s 1 line out (rested (line_before s line)) (line_before s line))
-        (if_room s 1 line out (ended (unprinted s line (lent_before ring framebuffer screen cursor))).printed []) }
-    ensures has_room { HasRoom s 1 line out → HasRoom result 0 line out }
+    ensures state { state_of result line.now (lent ring.new framebuffer.new screen.new cursor.new) out.new
+        ≡ if_room s 1 line.now out.old (ended (state_of s line.now (lent ring.old framebuffer.old screen.old cursor.old) out.old))
+        (state_of s line.now (lent ring.old framebuffer.old screen.old cursor.old) out.old) }
+    ensures buffers { Buffers s result line.now out.old out.new (if_room s 1 line.now out.old (rested (line_before s line.now)) (line_before s line.now))
+        (if_room s 1 line.now out.old (ended (unprinted s line.now (lent ring.old framebuffer.old screen.old cursor.old))).printed []) }
+    ensures room { Within s 1 (length line.now) (length out.old) → Within result 0 (length line.now) (length out.old) }
 {
     let good = room_for(s, 1, line.len(), out.len());
     if !good {

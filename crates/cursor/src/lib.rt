@@ -1,4 +1,6 @@
 // The cursor plane: where a cursor stands over a picture, and its pixels blended there.
+#![tactic(auto)]
+
 ghost use Rattle.std.specs.Prelude.{◌≡◌, ◌≤◌, length, get_or};
 ghost use Rattle.geometry.specs.Pixels.{tabulate};
 ghost use Rattle.geometry.specs.Parts.{Inside};
@@ -13,7 +15,7 @@ pub const MAX_SIDE: u32 = 64;
 pub const IMAGE_WORDS: usize = 4096;
 
 // A defined cursor: its id, hotspot and size.
-#[derive(Drop)]
+#[derive(Clone, Copy)]
 pub struct Shape {
     pub id: u32,
     pub hotx: u32,
@@ -23,14 +25,14 @@ pub struct Shape {
 }
 
 // The cursor that is defined, if one is.
-#[derive(Drop)]
+#[derive(Clone, Copy)]
 pub enum Defined {
     Undefined,
     Cursor(Shape),
 }
 
 // The part of a cursor's columns or rows that lies in the picture: n of them, from column at of the picture and column skip of the cursor on.
-#[derive(Drop)]
+#[derive(Clone, Copy)]
 struct Span {
     at: u32,
     skip: u32,

@@ -1,4 +1,6 @@
 // The device: its parts, the test of a well-formed one, making.
+#![tactic(auto)]
+
 ghost use Rattle.std.specs.Prelude.{◌≡◌};
 ghost use Rattle.device.specs.Device.{frame_of, sizes_good, mode_good, condition_good, defined_good, well_formed, mode_fits, condition_of};
 ghost use Rattle.device.specs.Making.{creation, made_of};
@@ -22,14 +24,14 @@ pub use raster::MAX_WIDTH;
 pub const MAX_HEIGHT: u32 = 1600;
 
 // M, the bytes of the ring memory, and P, the pixels of framebuffer and screen.
-#[derive(Drop)]
+#[derive(Clone, Copy)]
 pub struct Sizes {
     pub memory: u32,
     pub pixels: u32,
 }
 
 // The writable registers' values last taken. The mode is width by height.
-#[derive(Drop)]
+#[derive(Clone, Copy)]
 pub struct Registers {
     pub id: u32,
     pub enable: bool,
@@ -44,7 +46,7 @@ pub struct Registers {
 }
 
 // The cursor plane: whether it is shown, and what CURSOR_ON 1 remembered.
-#[derive(Drop)]
+#[derive(Clone, Copy)]
 pub struct Plane {
     pub shown: bool,
     pub id: u32,
@@ -52,14 +54,14 @@ pub struct Plane {
     pub y: u32,
 }
 
-#[derive(Drop)]
+#[derive(Clone, Copy)]
 pub enum Condition {
     Idle,
     Running(Ring),
     Faulted(Cause),
 }
 
-#[derive(Drop)]
+#[derive(Clone, Copy)]
 pub struct Device {
     pub sizes: Sizes,
     pub registers: Registers,
@@ -69,7 +71,7 @@ pub struct Device {
     pub condition: Condition,
 }
 
-#[derive(Drop)]
+#[derive(Clone, Copy)]
 pub enum Making {
     Made(Device),
     Refused,

@@ -1,7 +1,5 @@
 -- A run of a device: document 01, "One command out of the ring" and "Answer numbers"; document 02, P1.
 use Rattle.std.specs.Prelude.{ℕ, ◌/◌, Bool, false, cond, ◌&&◌, List, eqb, length}
-use Rattle.std.specs.Borrow.{Bor}
-use denote.Triple.Both.{Both}
 use Rattle.execution.specs.declared.End.TheVariants.{Drained, Waiting, Fault}
 use Rattle.execution.specs.Straight.{end_number, Turn, Line}
 use Rattle.execution.specs.Table.{turn_of}
@@ -39,6 +37,7 @@ pub record Lent : Type 0 where
   pub screen : List ℕ
   pub cursor : List ℕ
 
+-- What a call is lent, or what it leaves of that. A slice that is lent for reading is the same at exit.
 abbrev pub lent : List ℕ → List ℕ → List ℕ → List ℕ → Lent
 lent ring framebuffer screen cursor = record { ring = ring; framebuffer = framebuffer; screen = screen; cursor = cursor }
 
@@ -48,17 +47,6 @@ with_ring l ring = lent ring l.framebuffer l.screen l.cursor
 
 abbrev pub with_framebuffer : Lent → List ℕ → Lent
 with_framebuffer l framebuffer = lent l.ring framebuffer l.screen l.cursor
-
--- A lent slice of words as a contract has it: at the call's entry, and at its exit.
-abbrev pub Slice : Type 0
-Slice = Both (Bor (List ℕ)) (Bor (List ℕ))
-
--- What a call is lent, and what it leaves of that. A slice that is lent for reading is the same at exit.
-abbrev pub lent_before : Slice → Slice → Slice → Slice → Lent
-lent_before ring framebuffer screen cursor = lent ring.entry.now framebuffer.entry.now screen.entry.now cursor.entry.now
-
-abbrev pub lent_after : Slice → Slice → Slice → Slice → Lent
-lent_after ring framebuffer screen cursor = lent ring.exit.now framebuffer.exit.now screen.exit.now cursor.exit.now
 
 -- A run answers a number and "the number of commands consumed in this run", and leaves a device and the lent memories.
 pub record RunOutcome : Type 0 where

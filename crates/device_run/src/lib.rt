@@ -1,10 +1,12 @@
 // A run of a device: its refusals, and what it leaves.
+#![tactic(auto)]
+
 ghost use Rattle.execution.specs.Claim.{ended, answer_number};
 ghost use Rattle.run.specs.Run.{answer_of};
 ghost use Rattle.device.specs.declared.Condition.TheVariants.{Running};
 ghost use Rattle.device.specs.Device.{mode_fits, well_formed};
 ghost use Rattle.std.specs.Prelude.{◌≡◌, true};
-ghost use Rattle.device_run.specs.Run.{run_number, lent_before, lent_after, ran_of, lent_good, ready};
+ghost use Rattle.device_run.specs.Run.{run_number, lent, ran_of, lent_good, ready};
 ghost use Rattle.device_run.specs.Run.{condition_after, busy_after, run_by, run_of};
 ghost use Rattle.device_run.specs.Settling.{Settles};
 
@@ -14,7 +16,7 @@ use execution::End;
 use ring::Ring;
 use run::RunEnd;
 
-#[derive(Drop)]
+#[derive(Clone, Copy)]
 pub enum RunAnswer {
     Spent,
     Ended(End),
@@ -26,7 +28,7 @@ pub enum RunAnswer {
 }
 
 // How a run ended, the commands that it consumed, and the device then.
-#[derive(Drop)]
+#[derive(Clone, Copy)]
 pub struct Ran {
     pub answer: RunAnswer,
     pub count: u32,
@@ -64,7 +66,7 @@ fn refused(d: Device, answer: RunAnswer) -> Ran
 }
 
 fn lent_good(d: Device, ring: &[u32], framebuffer: &[u32], screen: &[u32], cursor: &[u32]) -> bool
-    ensures { result ≡ lent_good d (lent_before ring framebuffer screen cursor) }
+    ensures { result ≡ lent_good d (lent ring.now framebuffer.now screen.now cursor.now) }
 {
     let sizes = d.sizes;
     let pixels = sizes.pixels as usize;
@@ -149,7 +151,7 @@ fn run_ring(
     budget: u32,
 ) -> Ran
     requires { (well_formed d ≡ true) × (mode_fits d ≡ true) }
-    ensures { ran_of result (lent_after ring framebuffer screen cursor) ≡ run_by d (lent_before ring framebuffer screen cursor) budget (Running at) }
+    ensures { ran_of result (lent ring.new framebuffer.now screen.new cursor.new) ≡ run_by d (lent ring.old framebuffer.now screen.old cursor.old) budget (Running at) }
 {
     let marks = d.marks;
     let frame = device::frame_of(d);
@@ -167,7 +169,7 @@ pub fn run(
     cursor: &mut [u32],
     budget: u32,
 ) -> Ran
-    ensures { ran_of result (lent_after ring framebuffer screen cursor) ≡ run_of d (lent_before ring framebuffer screen cursor) budget }
+    ensures { ran_of result (lent ring.new framebuffer.now screen.new cursor.new) ≡ run_of d (lent ring.old framebuffer.now screen.old cursor.old) budget }
 {
     let good = is_well_formed(d);
     if !good {
@@ -205,7 +207,7 @@ pub fn is_ready(
     screen: &[u32],
     cursor: &[u32],
 ) -> bool
-    ensures { result ≡ ready d (lent_before ring framebuffer screen cursor) }
+    ensures { result ≡ ready d (lent ring.now framebuffer.now screen.now cursor.now) }
 {
     let good = is_well_formed(d);
     if !good {

@@ -1,4 +1,6 @@
 // A device as 64 words: what a host in another language keeps between calls, and lends for each.
+#![tactic(auto)]
+
 ghost use Rattle.std.specs.Prelude.{◌≡◌, cond, eqb, length, replicate};
 ghost use Rattle.register_read.specs.Registers.{bit};
 ghost use Rattle.device_words.specs.Words.{defined_parts, condition_parts, setting_words, words_of, defined_from, condition_from, device_from, same, spelled_in, put_in};
@@ -10,21 +12,21 @@ use execution::Cause;
 use ring::Ring;
 
 // The device in lent words, or none.
-#[derive(Drop)]
+#[derive(Clone, Copy)]
 pub enum Held {
     Device(Device),
     Nothing,
 }
 
 // The words of the defined cursor: 1 and its id, hotspot and size, or all 0.
-#[derive(Drop)]
+#[derive(Clone, Copy)]
 struct DefinedWords {
     tag: u32,
     shape: Shape,
 }
 
 // The words of a condition: 0 idle, 1 with the remembered ring, or the number of the fault that stands.
-#[derive(Drop)]
+#[derive(Clone, Copy)]
 struct ConditionWords {
     tag: u32,
     ring: Ring,

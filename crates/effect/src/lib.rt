@@ -1,5 +1,7 @@
 // What an executed command does: to the screen, to the fence and to the defined cursor. The cursor's pixels come from the ring and are the run's to copy; ring
 // word 6 is the run's to write.
+#![tactic(auto)]
+
 ghost use Rattle.std.specs.Prelude.{◌≡◌, Bool};
 ghost use Rattle.raster.specs.Painters.{filled, copied};
 ghost use Rattle.effect.specs.Effects.{scene, screen_after, fence_after, defined_after, marks_after};
@@ -9,7 +11,7 @@ use cursor::Defined;
 use geometry::Frame;
 
 // The last fence executed and the defined cursor.
-#[derive(Drop)]
+#[derive(Clone, Copy)]
 pub struct Marks {
     pub fence: u32,
     pub defined: Defined,

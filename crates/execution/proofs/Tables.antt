@@ -94,8 +94,8 @@ module _ {S : Type 0} (cap : ℕ) (T : Table S) where
     same_all : (x : ℕ) (w : List ℕ) → T.head x ≤ length w → size_of T x w ≤ length w → all_of T x (w ++ v) ≡ all_of T x w
     same_all x w b e = ap (λ z. take z (w ++ v)) (same_size x w b) ∙ take-append-le (size_of T x w) w v e
 
-    well_stays : (s s' : S) (x : ℕ) (w : List ℕ) (n : ℕ) → Way s x w (exec n s') → Way s x (w ++ v) (exec n s')
-    well_stays s s' x w n (well a b c d e f) =
+    well_stays : (s : S) (x : ℕ) (w : List ℕ) (s' : S) (n : ℕ) → Way s x w (exec n s') → Way s x (w ++ v) (exec n s')
+    well_stays s x w s' n (well a b c d e f) =
         let h = take-append-le (T.head x) w v b in
         let z : Way s x (w ++ v) (exec (size_of T x (w ++ v)) (T.effect s (all_of T x (w ++ v)))) =
         well a (longer w b) (rw h c) (omega (arith, same_size x w b)) (omega (arith, same_size x w b, longer w e)) (rw (same_all x w b e) f) in
@@ -111,11 +111,11 @@ module _ {S : Type 0} (cap : ℕ) (T : Table S) where
         (omega (arith, same_size x w b)) (omega (arith, same_size x w b, longer w e)) (rw (same_all x w b e) f)
 
   module _ (laws : TableLaws cap T) where
-    well_one : (s s' : S) (x : ℕ) (w : List ℕ) (n : ℕ) → Way s x w (exec n s') → 1 ≤ n
-    well_one s s' x w n (well a b c d e f) = laws.size_some (head_of T x w)
+    well_one : (s : S) (x : ℕ) (w : List ℕ) (s' : S) (n : ℕ) → Way s x w (exec n s') → 1 ≤ n
+    well_one s x w s' n (well a b c d e f) = laws.size_some (head_of T x w)
 
-    well_whole : (s s' : S) (x : ℕ) (w : List ℕ) (n : ℕ) → Way s x w (exec n s') → n ≤ length w
-    well_whole s s' x w n (well a b c d e f) = e
+    well_whole : (s : S) (x : ℕ) (w : List ℕ) (s' : S) (n : ℕ) → Way s x w (exec n s') → n ≤ length w
+    well_whole s x w s' n (well a b c d e f) = e
 
     never_drained : (s : S) (x : ℕ) (w : List ℕ) → Way s x w (ends Drained) → ⊥
     never_drained s x w = elim [ ]
@@ -127,17 +127,17 @@ module _ {S : Type 0} (cap : ℕ) (T : Table S) where
     takes_one : (s s' : S) (w : List ℕ) (n : ℕ) → turn_of cap T s w ≡ exec n s' → 1 ≤ n
     unfolding turn_of
     takes_one s s' [] n q = absurd (true≢false cc)
-    takes_one s s' (x ∷ w) n q = well_one s s' x (x ∷ w) n (rw q at (way s x (x ∷ w)))
+    takes_one s s' (x ∷ w) n q = well_one s x (x ∷ w) s' n (rw q at (way s x (x ∷ w)))
 
     takes_whole : (s s' : S) (w : List ℕ) (n : ℕ) → turn_of cap T s w ≡ exec n s' → n ≤ length w
     unfolding turn_of
     takes_whole s s' [] n q = absurd (true≢false cc)
-    takes_whole s s' (x ∷ w) n q = well_whole s s' x (x ∷ w) n (rw q at (way s x (x ∷ w)))
+    takes_whole s s' (x ∷ w) n q = well_whole s x (x ∷ w) s' n (rw q at (way s x (x ∷ w)))
 
     exec_stays : (s s' : S) (w v : List ℕ) (n : ℕ) → turn_of cap T s w ≡ exec n s' → turn_of cap T s (w ++ v) ≡ exec n s'
     unfolding turn_of
     exec_stays s s' [] v n q = cc
-    exec_stays s s' (x ∷ w) v n q = turn_by s x (x ∷ w ++ v) (exec n s') (well_stays v s s' x (x ∷ w) n (rw q at (way s x (x ∷ w))))
+    exec_stays s s' (x ∷ w) v n q = turn_by s x (x ∷ w ++ v) (exec n s') (well_stays v s x (x ∷ w) s' n (rw q at (way s x (x ∷ w))))
 
     faults_stay : (s : S) (w v : List ℕ) (c : Cause) → turn_of cap T s w ≡ ends (Fault c) → turn_of cap T s (w ++ v) ≡ ends (Fault c)
     unfolding turn_of

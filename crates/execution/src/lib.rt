@@ -1,9 +1,11 @@
 // How straight execution and runs end, with document 01's answer numbers. The theory over them is in specs and proofs.
+#![tactic(auto)]
+
 ghost use Rattle.std.specs.Prelude.{◌≡◌};
 ghost use Rattle.execution.specs.Straight.{cause_number, end_number};
 
 // Why a fault stands.
-#[derive(Drop)]
+#[derive(Clone, Copy)]
 pub enum Cause {
     NotOffered,
     BadOperand,
@@ -12,7 +14,7 @@ pub enum Cause {
 }
 
 // How a turn ends that executes nothing.
-#[derive(Drop)]
+#[derive(Clone, Copy)]
 pub enum End {
     Drained,
     Waiting,

@@ -1,9 +1,11 @@
 // Rectangles and their cut to rows of pixels.
+#![tactic(auto)]
+
 ghost use Rattle.std.specs.Prelude.{◌≡◌, ◌+◌};
 ghost use Rattle.geometry.specs.Rectangle.{span_below, cut_of, cut_to, cut_copy};
 
 // w by h pixels, of which (x, y) is the top left one. Any four numbers are a rectangle.
-#[derive(Drop)]
+#[derive(Clone, Copy)]
 pub struct Rect {
     pub x: u32,
     pub y: u32,
@@ -12,14 +14,14 @@ pub struct Rect {
 }
 
 // What painters reach of a screen: the mode is width by height, and rows are all that its columns go on for, the mode's and those behind it.
-#[derive(Drop)]
+#[derive(Clone, Copy)]
 pub struct Frame {
     pub width: u32,
     pub height: u32,
     pub rows: u32,
 }
 
-#[derive(Drop)]
+#[derive(Clone, Copy)]
 pub enum Cut {
     Rectangle(Rect),
     Nothing,

@@ -1,7 +1,9 @@
 // Lists of appends and runs through the public calls, with demand 3 as the contract.
+#![tactic(auto)]
+
 ghost use Rattle.std.specs.Prelude.{◌≡◌};
 ghost use Rattle.device.specs.declared.Condition.TheVariants.{Running};
-ghost use Rattle.device_run.specs.Run.{lent_before, lent_after};
+ghost use Rattle.device_run.specs.Run.{lent};
 ghost use Rattle.history.specs.Demand.{ring_at_start, is_start};
 ghost use Rattle.history.specs.Replay.{world, walk, walk_of, ReplayResult};
 ghost use Rattle.history.specs.Pairs.{performed, pair_of};
@@ -10,7 +12,7 @@ use adapter::{Condition, Device};
 use ring::Ring;
 
 // The device as the list left it, or that the list was not begun.
-#[derive(Drop)]
+#[derive(Clone, Copy)]
 pub enum Replayed {
     Refused,
     Done(Device),
@@ -55,7 +57,7 @@ pub fn is_start(
     screen: &[u32],
     cursor: &[u32],
 ) -> bool
-    ensures { result ≡ is_start (world d (lent_before ring framebuffer screen cursor)) }
+    ensures { result ≡ is_start (world d (lent ring.now framebuffer.now screen.now cursor.now)) }
 {
     let ready = adapter::is_ready(d, ring, framebuffer, screen, cursor);
     if !ready {
@@ -66,7 +68,7 @@ pub fn is_start(
 }
 
 // What one operation of a list answered, and the device then.
-#[derive(Drop)]
+#[derive(Clone, Copy)]
 struct Performed {
     answer: u32,
     count: u32,
@@ -82,8 +84,8 @@ fn perform_pair(
     screen: &mut [u32],
     cursor: &mut [u32],
 ) -> Performed
-    ensures { performed result (lent_after ring framebuffer screen cursor)
-        ≡ pair_of kind operand (world d (lent_before ring framebuffer screen cursor)) }
+    ensures { performed result (lent ring.new framebuffer.now screen.new cursor.new)
+        ≡ pair_of kind operand (world d (lent ring.old framebuffer.now screen.old cursor.old)) }
 {
     if kind == 0 {
         let taken = ring::append(ring, operand);
@@ -113,8 +115,8 @@ fn walk(
     screen: &mut [u32],
     cursor: &mut [u32],
 ) -> Device
-    ensures { walk list.new (world result (lent_after ring framebuffer screen cursor))
-        ≡ walk_of list.old (world device (lent_before ring framebuffer screen cursor)) }
+    ensures { walk list.new (world result (lent ring.new framebuffer.now screen.new cursor.new))
+        ≡ walk_of list.old (world device (lent ring.old framebuffer.now screen.old cursor.old)) }
 {
     let mut d = device;
     let mut i = 0;
@@ -140,8 +142,8 @@ pub fn replay(
     screen: &mut [u32],
     cursor: &mut [u32],
 ) -> Replayed
-    ensures { ReplayResult (world device (lent_before ring framebuffer screen cursor)) list.old
-        result list.new (lent_after ring framebuffer screen cursor) }
+    ensures { ReplayResult (world device (lent ring.old framebuffer.now screen.old cursor.old)) list.old
+        result list.new (lent ring.new framebuffer.now screen.new cursor.new) }
 {
     let start = is_start(device, ring, framebuffer, screen, cursor);
     if !start {

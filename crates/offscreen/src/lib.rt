@@ -1,11 +1,13 @@
 // The usable offscreen rectangle: what lies behind the mode in the device's pixels.
+#![tactic(auto)]
+
 ghost use Rattle.std.specs.Prelude.{◌≡◌, ◌*◌, ◌/◌, ◌≤◌};
 ghost use Rattle.offscreen.specs.Offscreen.{ceiling, offscreen_of};
 
 use device::{Device, is_well_formed};
 
 // The edges of a rectangle; right and bottom are excluded.
-#[derive(Drop)]
+#[derive(Clone, Copy)]
 pub struct Edges {
     pub left: u32,
     pub top: u32,

@@ -1,4 +1,6 @@
 // A finished picture: the screen's rows, with the cursor over them.
+#![tactic(auto)]
+
 ghost use Rattle.std.specs.Prelude.{◌≡◌, ◌&&◌, ◌*◌, leb};
 ghost use Rattle.raster.specs.Painters.{rows_fit};
 ghost use Rattle.picture.specs.Picture.{composed};
@@ -8,14 +10,14 @@ use geometry::Rect;
 use raster::MAX_WIDTH;
 
 // The cursor that is visible, at a position.
-#[derive(Drop)]
+#[derive(Clone, Copy)]
 pub struct VisibleCursor {
     pub shape: Shape,
     pub x: u32,
     pub y: u32,
 }
 
-#[derive(Drop)]
+#[derive(Clone, Copy)]
 pub enum Overlay {
     Nothing,
     Cursor(VisibleCursor),

@@ -1,4 +1,6 @@
 // One pixel: the sixteen raster operations, their masks, and the blend of a cursor pixel.
+#![tactic(auto)]
+
 ghost use Rattle.std.specs.Prelude.{◌≡◌, ◌≤◌};
 ghost use Rattle.pixel.specs.RasterOperation.{raster_op};
 ghost use Rattle.pixel.specs.Blend.{blend_colour, blend_pixel};
@@ -64,7 +66,7 @@ pub fn raster_op(rop: u32, s: u32, d: u32) -> u32
 }
 
 // An operation at one source: of the destination the bits of keep, then those of flip turned over.
-#[derive(Drop)]
+#[derive(Clone, Copy)]
 pub struct Reduced {
     pub keep: u32,
     pub flip: u32,
@@ -93,7 +95,7 @@ pub fn reduce_pixel(keep: u32, flip: u32, d: u32) -> u32
 
 // An operation at any source and destination: at each bit it is product·s·d + source·s + dest·d + constant, sums being exclusive-or.
 // Each mask is 0 or all ones.
-#[derive(Drop)]
+#[derive(Clone, Copy)]
 pub struct Masks {
     pub product: u32,
     pub source: u32,

@@ -1,5 +1,7 @@
 // The painters: fill, copy and update of a rectangle, on a lent screen of rows of width pixels.
 // A public painter cuts its rectangle; the functions below it paint what is left, row by row.
+#![tactic(auto)]
+
 ghost use Rattle.std.specs.Prelude.{◌≡◌, Bool, ◌&&◌, ◌+◌, ◌≤◌, ◌<◌, eqb, length, get_or};
 ghost use Rattle.geometry.specs.Pixels.{tabulate};
 ghost use Rattle.geometry.specs.Parts.{front, moved, next, Inside, Ordered, after};

@@ -1,4 +1,6 @@
 // The painters for C: a slice is a pointer and a number of words, a rectangle is four numbers.
+#![tactic(auto)]
+
 ghost use Rattle.std.specs.Prelude.{◌≡◌};
 ghost use Rattle.raster.specs.Painters.{filled, updated, copied};
 

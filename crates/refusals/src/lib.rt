@@ -1,4 +1,6 @@
 // Demand 2 for readers: which answers are refusals. When each of them comes is said in specs/Refusing.antt and proved in proofs/Demand2.antt.
+#![tactic(auto)]
+
 ghost use Rattle.std.specs.Prelude.{◌≡◌};
 ghost use Rattle.refusals.specs.Refusing.{is_refusal};
 

@@ -1,8 +1,10 @@
 // Register numbers, as svga_reg.h has them.
+#![tactic(auto)]
+
 ghost use Rattle.std.specs.Prelude.{◌≡◌};
 ghost use Rattle.register.specs.Numbers.{register_of};
 
-#[derive(Drop)]
+#[derive(Clone, Copy)]
 pub enum Writable {
     Id,
     Enable,
@@ -17,7 +19,7 @@ pub enum Writable {
     CursorOn,
 }
 
-#[derive(Drop)]
+#[derive(Clone, Copy)]
 pub enum ReadOnly {
     MaxWidth,
     MaxHeight,
@@ -39,7 +41,7 @@ pub enum ReadOnly {
     HostBitsPerPixel,
 }
 
-#[derive(Drop)]
+#[derive(Clone, Copy)]
 pub enum Register {
     Writes(Writable),
     Reads(ReadOnly),

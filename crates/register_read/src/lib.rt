@@ -1,4 +1,6 @@
 // What registers read.
+#![tactic(auto)]
+
 ghost use Rattle.std.specs.Prelude.{◌≡◌, true};
 ghost use Rattle.device.specs.Device.{well_formed, width_of, height_of};
 ghost use Rattle.register_read.specs.Answers.{reading};
@@ -7,7 +9,7 @@ ghost use Rattle.register_read.specs.Registers.{bit, writable_value, read_only_v
 use device::{Device, MAX_HEIGHT, MAX_WIDTH, Registers, is_well_formed};
 use register::{ReadOnly, Register, Writable};
 
-#[derive(Drop)]
+#[derive(Clone, Copy)]
 pub enum Value {
     Is(u32),
     NoRegister,

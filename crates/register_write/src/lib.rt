@@ -1,4 +1,6 @@
 // What a register write does.
+#![tactic(auto)]
+
 ghost use Rattle.std.specs.Prelude.{◌≡◌, ◌&&◌, leb};
 ghost use Rattle.register_write.specs.Answers.{write_number, write_outcome};
 ghost use Rattle.register_write.specs.Registers.{in_range, id_written, enable_written, width_written, height_written, idled, unconfigured, running, synced};
@@ -9,7 +11,7 @@ use device::{Condition, Device, MAX_HEIGHT, MAX_WIDTH, Plane, Registers, is_well
 use register::{Register, Writable};
 use ring::Acceptance;
 
-#[derive(Drop)]
+#[derive(Clone, Copy)]
 pub enum WriteAnswer {
     Taken,
     WrongLength,
@@ -19,7 +21,7 @@ pub enum WriteAnswer {
     RingRefused,
 }
 
-#[derive(Drop)]
+#[derive(Clone, Copy)]
 pub struct Written {
     pub answer: WriteAnswer,
     pub device: Device,

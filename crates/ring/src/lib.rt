@@ -1,4 +1,6 @@
 // The command ring's words 0 to 3, MIN, MAX, NEXT_CMD and STOP: when they are accepted, what is then remembered, and the guest's append.
+#![tactic(auto)]
+
 ghost use Rattle.std.specs.Prelude.{◌≡◌, ◌+◌, ◌≤◌};
 ghost use Rattle.ring.specs.Acceptance.{offset_usable, bounds_usable, usable, accepted};
 ghost use Rattle.ring.specs.Waiting.{placed, next_good};
@@ -13,20 +15,20 @@ pub const LEAST_BYTES: u64 = 10240;
 pub const LEAST_WORDS: u64 = 2560;
 
 // The remembered ring, in words of the ring memory: from min to below max, the next command at stop.
-#[derive(Drop)]
+#[derive(Clone, Copy)]
 pub struct Ring {
     pub min: u32,
     pub max: u32,
     pub stop: u32,
 }
 
-#[derive(Drop)]
+#[derive(Clone, Copy)]
 pub enum Acceptance {
     Accepted(Ring),
     Refused,
 }
 
-#[derive(Drop)]
+#[derive(Clone, Copy)]
 pub enum AppendAnswer {
     Taken,
     Refused,

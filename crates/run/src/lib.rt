@@ -1,4 +1,6 @@
 // A run: commands out of the ring, one turn after the other, until the budget is spent or a turn ends it.
+#![tactic(auto)]
+
 ghost use Rattle.std.specs.Prelude.{◌≡◌, true, cond, ◌+◌, ◌/◌, ◌≤◌, ◌<◌, ◌++◌, ltb, length, get_or, take, drop};
 ghost use Rattle.std.proofs.Math.Seq.{paste};
 ghost use Rattle.execution.specs.declared.Cause.TheVariants.{BadOperand};
@@ -23,7 +25,7 @@ use geometry::Frame;
 use ring::{MAX_WORDS, Ring};
 
 // The words that wait in a ring from word lo to below word hi: n of them, from word at on.
-#[derive(Drop)]
+#[derive(Clone, Copy)]
 struct View {
     lo: usize,
     hi: usize,
@@ -32,7 +34,7 @@ struct View {
 }
 
 // How a run ended: its budget is spent, or a turn ended it.
-#[derive(Drop)]
+#[derive(Clone, Copy)]
 pub enum RunEnd {
     Spent,
     Ended(End),
@@ -40,7 +42,7 @@ pub enum RunEnd {
 
 // What a run gives beside the lent memories: its answer, the commands that it consumed, the remembered ring with STOP behind them, and the fence and
 // cursor that they left.
-#[derive(Drop)]
+#[derive(Clone, Copy)]
 pub struct RingRun {
     pub answer: RunEnd,
     pub count: u32,
@@ -216,7 +218,7 @@ fn place_of(v: View) -> Ring
 // ---- commands in a row of words
 
 // Why commands in a row came to an end: the budget is spent, too few words are left in the row, a fault, a command with data behind its head.
-#[derive(Drop)]
+#[derive(Clone, Copy)]
 enum Pause {
     Spent,
     Short,
@@ -225,7 +227,7 @@ enum Pause {
 }
 
 // Where they ended: at which word, with which fence, with how much of the budget left, and why.
-#[derive(Drop)]
+#[derive(Clone, Copy)]
 struct Paused {
     at: usize,
     fence: u32,
@@ -234,7 +236,7 @@ struct Paused {
 }
 
 // The same without the reason, which the loop below does not keep: constants for it would take its registers.
-#[derive(Drop)]
+#[derive(Clone, Copy)]
 struct RowEnd {
     at: usize,
     fence: u32,
@@ -354,14 +356,14 @@ fn row_end(v: View) -> usize
 // ---- one turn
 
 // Whether a run goes on after a turn.
-#[derive(Drop)]
+#[derive(Clone, Copy)]
 enum Stop {
     Goes,
     Stops(End),
 }
 
 // What a turn gives beside the lent memories.
-#[derive(Drop)]
+#[derive(Clone, Copy)]
 struct Turned {
     stop: Stop,
     view: View,

@@ -1,12 +1,14 @@
 // The device for C and Rust. Its state is 64 words that the host keeps and lends for each call, as it lends the memories; any words and
 // any lengths may be lent. A length other than 64 is answer 20, and words that hold no device are refused.
+#![tactic(auto)]
+
 ghost use Rattle.std.specs.Prelude.{◌≡◌, length};
 ghost use Rattle.register_read.specs.Registers.{read_of};
 ghost use Rattle.device_words.specs.declared.Held.TheVariants.{Device as Holds};
 ghost use Rattle.device_words.specs.Words.{only_well_formed};
 ghost use Rattle.ring.specs.Append.{append_of};
 ghost use Rattle.writer.specs.Writing.{command, write_of};
-ghost use Rattle.device_run.specs.Run.{lent_before, lent_after};
+ghost use Rattle.device_run.specs.Run.{lent};
 ghost use Rattle.svga.specs.Calls.{packed, call, svga_make, svga_write, svga_read, run_call, svga_run, svga_picture};
 ghost use Rattle.svga.specs.Calls.{edges_call, edge_words, edges_held, svga_offscreen, fence_held, svga_fence, passed_held, svga_passed};
 
@@ -119,8 +121,8 @@ pub extern "C" fn svga_run(
     cursor: &mut [u32],
     budget: u32,
 ) -> u64
-    ensures { run_call result device.new (lent_after ring framebuffer screen cursor)
-        ≡ svga_run device.old (lent_before ring framebuffer screen cursor) budget }
+    ensures { run_call result device.new (lent ring.new framebuffer.now screen.new cursor.new)
+        ≡ svga_run device.old (lent ring.old framebuffer.now screen.old cursor.old) budget }
 {
     if device.len() != 64 {
         return pack(LENT_LENGTH, 0);

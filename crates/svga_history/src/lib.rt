@@ -1,4 +1,6 @@
 // Every call of the library for C and Rust as one history on lent words. The theorems are in proofs/; here is what a host does with a packed result.
+#![tactic(auto)]
+
 ghost use Rattle.std.specs.Prelude.{◌≡◌};
 ghost use Rattle.svga_history.specs.WordCalls.{answer_in, value_in};
 

@@ -1,4 +1,6 @@
 // The guest's side of the ring: a command with its arguments, pixels and bytes, appended whole by the published rule, or not at all.
+#![tactic(auto)]
+
 ghost use Rattle.std.specs.Prelude.{◌≡◌, true, cond, not, ◌&&◌, ◌++◌, eqb, leb, ℕ, ◌+◌, ◌*◌, ◌/◌, ◌≤◌, ◌<◌, length, get_or, set, drop};
 ghost use Rattle.std.proofs.Math.Seq.{paste};
 ghost use Rattle.command.specs.declared.Kind.TheVariants.{DefineAlphaCursor, Escape};
@@ -12,7 +14,7 @@ ghost use Rattle.writer.specs.Laying.{laid, asked};
 
 use command::{Data, Finding, Kind};
 
-#[derive(Drop)]
+#[derive(Clone, Copy)]
 pub enum WriterAnswer {
     Taken,
     LentLength,
@@ -37,7 +39,7 @@ pub fn writer_number(answer: WriterAnswer) -> u32
 // ---- what a head asks for
 
 // All words of its command, its pixels and its bytes. No words where the device takes no such command.
-#[derive(Drop)]
+#[derive(Clone, Copy)]
 struct Asked {
     words: u64,
     pixels: u64,
@@ -370,7 +372,7 @@ fn publish(ring: &mut [u32], at: usize)
 // ---- the write
 
 // A usable ring in words: from lo to below hi, the next word at next, and so many words free.
-#[derive(Drop)]
+#[derive(Clone, Copy)]
 struct Room {
     lo: usize,
     hi: usize,
