@@ -63,6 +63,7 @@ fn cut_of(x: u32, y: u32, w: u32, h: u32) -> Cut
 
 // What is left of a rectangle in rows of width pixels.
 // Rules out: a wide rectangle that vanishes because x + w wrapped; an empty rectangle handed on as one that has pixels.
+#[tactic(auto, unfolding(crate::specs::Rectangle::cut_to))]
 pub fn cut_to(area: Rect, width: u32, rows: u32) -> Cut
     ensures { result ≡ cut_to area width rows }
 {
@@ -73,6 +74,7 @@ pub fn cut_to(area: Rect, width: u32, rows: u32) -> Cut
 
 // What is left of a copy's destination once the source at (sx, sy) is cut as well.
 // Rules out: destinations whose source lies outside; a source that is cut while its destination is not.
+#[tactic(auto, unfolding(crate::specs::Rectangle::cut_copy))]
 pub fn cut_copy(sx: u32, sy: u32, area: Rect, width: u32, rows: u32) -> Cut
     ensures { result ≡ cut_copy sx sy area width rows }
 {
