@@ -142,6 +142,7 @@ fn blend_colour(a: u32, cursor: u32, below: u32) -> u32
 
 // A cursor pixel over a screen pixel.
 // Rules out: rounding down (a 128, 1 over 0 gives 1); the screen's top byte kept.
+#[tactic(auto, unfolding(crate::specs::Blend::blend_pixel))]
 pub fn blend(cursor: u32, below: u32) -> u32
     ensures { result ≡ blend_pixel cursor below }
 {
