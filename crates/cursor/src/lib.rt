@@ -41,6 +41,7 @@ struct Span {
 
 // Whether a command may define such a cursor.
 // Rules out: a cursor of 65 by 1 or of 0 by 1; a hotspot on the edge behind the last column.
+#[tactic(auto, unfolding(crate::specs::Plane::shape_good))]
 pub fn shape_good(shape: Shape) -> bool
     ensures { result ≡ shape_good shape }
 {
@@ -117,6 +118,7 @@ fn span_at(at: u64, skip: u64, size: u32, limit: u32) -> Span
 }
 
 // Of size columns from the corner on, those from 0 to below limit.
+#[tactic(auto, using(crate::proofs::Integers::before, crate::proofs::Integers::beyond), unfolding(crate::specs::Spans::span_from))]
 fn span_of(position: u32, hot: u32, size: u32, limit: u32) -> Span
     ensures { result ≡ span_from (corner_of position hot) size limit }
 {
@@ -173,6 +175,7 @@ fn overlay_visible(
     }
 }
 
+#[tactic(auto, unfolding(crate::specs::Plane::overlay_fits))]
 fn overlay_fits(width: u32, rows: u32, shape: Shape, pixels: usize, words: usize) -> bool
     ensures { result ≡ overlay_fits width rows shape pixels words }
 {
