@@ -24,6 +24,7 @@ pub enum Overlay {
 }
 
 // The rows lie in the output and in the screen, which have these lengths.
+#[tactic(auto, unfolding(raster::specs::Painters::rows_fit))]
 fn rows_lent(width: u32, rows: u32, output: usize, screen: usize) -> bool
     ensures { result ≡ (rows_fit width rows output && leb (width * rows) screen) }
 {
