@@ -16,6 +16,11 @@ class Unreadable(Exception):
     pass
 
 
+def parts_of(name):
+    """The words between which an operator's operands stand, as ∷ of ◌∷◌; of another name none."""
+    return [part for part in name.split("◌") if part] if "◌" in name else []
+
+
 def grouped(tokens):
     """The tokens as a tree: what stands in brackets is a list that begins with its opening bracket."""
     stack = [["top"]]
@@ -209,7 +214,7 @@ class Declaration:
             found.expression(kind, inside)
             if self.kind == "record":
                 inside = inside | set(names)
-        own = set(self.name.split("_")) | {self.name}
+        own = {self.name, *parts_of(self.name)}
         for left, right, helpers in self.clauses:
             there = found.pattern([node for node in left if isinstance(node, list) or node not in own], bound)
             there = there | {helper.name for helper in helpers}
@@ -237,7 +242,7 @@ class File:
                     raise Unreadable(f"{declaration.name} is declared twice")
                 self.declarations[declaration.name] = declaration
                 for name in [declaration.name, *declaration.constructors]:
-                    self.scope.update((part, declaration) for part in [name, *name.split("_")] if part)
+                    self.scope.update((part, declaration) for part in [name, *parts_of(name)])
         except Unreadable as error:
             raise Unreadable(f"{path}: {error}") from None
 
@@ -295,7 +300,7 @@ class File:
             original, _, renamed = name.partition(" as ")
             self.names[renamed.strip() or original] = (path, original)
             if not renamed:
-                self.names.update((part, (path, original)) for part in original.split("_") if part)
+                self.names.update((part, (path, original)) for part in parts_of(original))
 
     def record_or_data(self, lines, sections):
         head, body = headed(lines)
@@ -322,7 +327,7 @@ class File:
             raise Unreadable(f"neither a signature nor a clause: {lines[0][1].strip()}")
         declaration = declarations[-1]
         equals = nodes.index("=")
-        if not {declaration.name, *filter(None, declaration.name.split("_"))} & {node for node in nodes[:equals] if isinstance(node, str)}:
+        if not {declaration.name, *parts_of(declaration.name)} & {node for node in nodes[:equals] if isinstance(node, str)}:
             raise Unreadable(f"a clause, and not of {declaration.name}")
         declaration.clauses.append((nodes[:equals], nodes[equals + 1:], self.block(lines[where + 1:], [])))
         declaration.last = lines[-1][0]

@@ -51,9 +51,9 @@ class Source:
         for function in re.finditer(r"^\s*(pub )?(?:extern \"C\" )?fn (\w+)", text, re.M):
             start = text.index("(", function.end())
             at = closing(text, start)
-            parameters = {"self", *re.findall(r"(\w+)\s*:", text[start:at])}
+            parameters = {"self", "result", *re.findall(r"(\w+)\s*:", text[start:at])}
             found = antt.Names(lambda name: False)
-            while clause := re.compile(r"(?:(?!\bfn\b)[^{])*?\b(?:requires|ensures)\s*(?=\{)").match(text, at):
+            while clause := re.compile(r"(?:(?!\bfn\b)[^{])*?\b(?:requires|ensures)(?:\s+\w+)?\s*(?=\{)").match(text, at):
                 at = closing(text, clause.end())
                 found.expression(antt.tree(text[clause.end() + 1:at]), parameters)
             self.functions.append((function.group(2), bool(function.group(1)), list(found.found)))
@@ -66,6 +66,7 @@ class Tree:
         self.texts = texts
         self.files = {path: antt.File(path, text) for path, text in texts.items() if re.fullmatch(r"crates/\w+/(specs|proofs)/\w+\.antt", path)}
         self.sources = [Source(path, text) for path, text in texts.items() if re.fullmatch(r"crates/\w+/src/.*\.rt", path)]
+        self.crates = {path.split("/")[1] for path in texts if path.startswith("crates/")}
         self.reached = {}  # a declaration: what it is reached from, another one or a root's name
         self.theorems = set()
         self.walk()
@@ -75,8 +76,8 @@ class Tree:
 
     def named(self, file, module, name):
         """A module's declaration; None for the kit's, for a type of the source, and for what is generated for a function."""
-        path = re.fullmatch(r"Rattle·(\w+)(?:·specs|·proofs)?\.(specs|proofs)\.(.+)", module)
-        if not path or re.match(r"declared\b|\w+\.", path.group(3)):
+        path = re.fullmatch(r"Rattle\.(\w+)\.(specs|proofs)\.(.+)", module)
+        if not path or path.group(1) not in self.crates or re.match(r"declared\b|\w+\.", path.group(3)):
             return None
         there = self.files.get("crates/{}/{}/{}.antt".format(*path.groups()))
         if there is None or name not in there.scope:
@@ -86,7 +87,7 @@ class Tree:
     def meaning(self, file, token):
         """The declaration that a token of a file names, if it is one of the repository's; a constructor's is its data type."""
         head, _, rest = token.partition(".")
-        if token.startswith("Rattle·"):
+        if token.startswith("Rattle."):
             return self.named(file, *token.rsplit(".", 1))
         if head in file.scope:
             return file.scope[head]
@@ -104,7 +105,7 @@ class Tree:
         """The declarations that free names of a file mean. Each has to come from somewhere, or this file misreads the text."""
         for token in tokens:
             head = token.split(".")[0]
-            brought = head in file.scope or head in file.names or head in file.modules or head.startswith("Rattle·")
+            brought = head in file.scope or head in file.names or head in file.modules or head == "Rattle"
             if not brought and head not in PRELUDE and not head[0].isdigit():
                 raise Unreadable(f"{file.path}: nothing brings the name {token}")
         return [found for found in (self.meaning(file, token) for token in tokens) if found]
@@ -272,7 +273,7 @@ def repository():
 
 # ---- the tests of this file: a small repository of which all is known
 
-KIT = "use Prim.Native.Nat.{ℕ, zero, suc, _+_}\nuse mathlib.Core.Path.{_≡_}\n"
+KIT = "use Rattle.std.specs.Prelude.{ℕ, zero, suc, ◌+◌, ◌≡◌}\n"
 EXAMPLE = {
     "crates/low/specs/Base.antt": KIT + """
 -- two lines of comment
@@ -298,8 +299,8 @@ pub data Step : Type 0 where
   first : Step
   onward : ℕ → Step
 
-infix 3 _joins_
-abbrev pub _joins_ : ℕ → ℕ → ℕ
+infix 3 ◌joins◌
+abbrev pub ◌joins◌ : ℕ → ℕ → ℕ
 a joins b = a + b
 """,
     # each of these is bound wherever Top writes its name, but for `again`
@@ -333,11 +334,11 @@ abbrev pub value : ℕ
 value = 0
 """,
     "crates/high/specs/Top.antt": KIT + """
-use Rattle·low.specs.Base.{twice as double, Turn, goes, first, onward, _joins_}
-use Rattle·low.specs.Base as B
-use Rattle·low.specs.Bound.{section, arrow, variable, case, lambda, local, field}
-use Rattle·low.specs.Again.{again, value}
-use Rattle·high·specs.specs.declared.Thing.{Thing}
+use Rattle.low.specs.Base.{twice as double, Turn, goes, first, onward, ◌joins◌}
+use Rattle.low.specs.Base as B
+use Rattle.low.specs.Bound.{section, arrow, variable, case, lambda, local, field}
+use Rattle.low.specs.Again.{again, value}
+use Rattle.high.specs.declared.Thing.{Thing}
 
 module _ {S : Type 0} (section : S → ℕ) where
   unfoldable pub walked : Turn S → (arrow : ℕ) → arrow ≡ arrow → Thing
@@ -347,7 +348,7 @@ module _ {S : Type 0} (section : S → ℕ) where
     where
       go : S → ℕ
       go variable = double (section variable)
-  walked B.stays n p = record { field = n } .field
+  walked B.stays n' p = (record { field = n' }).field
 
 abbrev pub after : ℕ
 after = 0
@@ -355,11 +356,11 @@ after = 0
     "crates/high/specs/Claim.antt": KIT + """
 pub record Promise (n : ℕ) : Type 0 where
   pub field : ℕ
-  pub holds : n ≡ field + Rattle·low.specs.Base.size
+  pub holds : n ≡ field + Rattle.low.specs.Base.size
 """,
     "crates/high/proofs/Laws.antt": KIT + """
-use Rattle·low.specs.Base.{idle}
-use Rattle·high·specs.specs.Claim.{Promise}
+use Rattle.low.specs.Base.{idle}
+use Rattle.high.specs.Claim.{Promise}
 
 abbrev shorthand : ℕ
 shorthand = 4
@@ -370,32 +371,34 @@ module _ (n : ℕ) where
 """,
     # examples: the walk does not begin here
     "crates/high/proofs/Refuted.antt": KIT + """
-use Rattle·low.specs.Base.{idle}
+use Rattle.low.specs.Base.{idle}
 
 abbrev wrong : ℕ
 wrong = 5
 
-pub not-so : idle wrong ≡ wrong → ⊥
-not-so = lemma
+pub not_so : idle wrong ≡ wrong → ⊥
+not_so = lemma
 """,
     "crates/high/src/lib.rt": """
-ghost use mathlib.Core.Path.{_≡_};
-ghost use Rattle·low.specs.Base.{idle};
-ghost use Rattle·high·specs.specs.Top.{walked, after};
+ghost use Rattle.std.specs.Prelude.{◌≡◌};
+ghost use Rattle.low.specs.Base.{idle};
+ghost use Rattle.high.specs.Top.{walked, after};
 fn inner(x: u32) -> u32
-    requires { ⌜ idle x ≡ 0 ⌝ }
+    requires { idle x ≡ 0 }
 { 0 }
 pub fn outer(after: u32) -> [u32; 2]
-    ensures { λ r. ⌜ r ≡ r ⌝ }
-    ensures { λ r. ⌜ r ≡ walked after ⌝ }
+    ensures same { result ≡ result }
+    ensures walks {
+        result ≡ walked after
+    }
 { inner(after) }
 """,
-    PROMISES: "`high/Laws.kept`, `crates/high/proofs/Refuted.antt`: `high/Refuted.not-so`",
+    PROMISES: "`high/Laws.kept`, `crates/high/proofs/Refuted.antt`: `high/Refuted.not_so`",
     MAP: f"{FIRST}\n`crates/high/specs/Claim.antt`\n{BELIEVED}\n`crates/low/specs/Base.antt`, `crates/low/specs/Again.antt`, `crates/high/specs`\n"
          f"{OTHERS}\n`crates/low/specs/Bound.antt`\n",
 }
 KNOWN = ["high/Claim.Promise", "high/Laws.shorthand", "high/Top.walked", "low/Again.again", "low/Again.value",
-         "low/Base.Step", "low/Base.Turn", "low/Base._joins_", "low/Base.size", "low/Base.thrice", "low/Base.twice"]
+         "low/Base.Step", "low/Base.Turn", "low/Base.size", "low/Base.thrice", "low/Base.twice", "low/Base.◌joins◌"]
 FAILURES = [
     "crates/low/specs/Base.antt: it has both kinds: idle need not be believed, the other 6 must",
     "crates/high/specs/Top.antt: it has both kinds: after need not be believed, the other 1 must",
@@ -432,9 +435,9 @@ def self_test(fail):
     expect("a promise less", believed(with_edit(PROMISES, "kept", "lost")), [one for one in KNOWN if one.split(".")[1] not in ("Promise", "shorthand", "size")])
     expect("a file promised whole", believed(with_edit(PROMISES, "high/Laws.kept", "crates/high/proofs/Laws.antt")), KNOWN)
     expect("an example as a theorem", believed(Tree({
-        **{path.replace("Refuted", "Refuses"): text for path, text in EXAMPLE.items()}, PROMISES: "`high/Laws.kept` `high/Refuses.not-so`"})),
+        **{path.replace("Refuted", "Refuses"): text for path, text in EXAMPLE.items()}, PROMISES: "`high/Laws.kept` `high/Refuses.not_so`"})),
         sorted([*KNOWN, "low/Base.idle", "high/Refuses.wrong"]))
-    example = "Rattle·high·proofs.proofs.Refuted.wrong"
+    example = "Rattle.high.proofs.Refuted.wrong"
     expect("an example in a statement", believed(with_edit("crates/high/proofs/Laws.antt", "Promise shorthand", f"Promise {example}")),
            sorted([*(one for one in KNOWN if one != "high/Laws.shorthand"), "high/Refuted.wrong"]))
     expect("a list too short", failures(with_edit(MAP, "`crates/low/specs/Base.antt`, ", "")), [f"{MAP}: '{BELIEVED}' lacks crates/low/specs/Base.antt"])
@@ -443,7 +446,7 @@ def self_test(fail):
     expect("a false comment", failures(with_edit("crates/low/specs/Again.antt", "\nabbrev", f"-- {DENIAL}.\nabbrev")),
            [f"crates/low/specs/Again.antt: it says '{DENIAL}', and again, value must"])
     for what, path, old, new in (
-        ("a glob", "crates/high/specs/Top.antt", "use Rattle·low.specs.Again", "use Rattle·low.specs.Bound.*\nuse Rattle·low.specs.Again"),
+        ("a glob", "crates/high/specs/Top.antt", "use Rattle.low.specs.Again", "use Rattle.low.specs.Bound.*\nuse Rattle.low.specs.Again"),
         ("a name that nothing brings", "crates/high/specs/Top.antt", "{again, ", "{"),
         ("a name that is not declared", "crates/low/specs/Again.antt", "again", "other"),
         ("a clause of nothing", "crates/high/specs/Top.antt", "after = 0", "other = 0"),
