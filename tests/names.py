@@ -2,9 +2,9 @@
 """names.py: what the documents name in backticks is there, and their links lead somewhere.
 
 In docs/PROMISES.md, docs/ARCHITECTURE.md, docs/DECISIONS.md and CONTRIBUTING.md:
-  `crate::name`       a function, struct or enum of crates/CRATE/src, or one of another crate that it passes on by 'pub use'
+  `crate::name`       a function, struct or enum of crates/CRATE/src, or what it passes on of another crate by 'pub use'
   `crate/File.name`   a declaration of crates/CRATE/specs/File.antt or crates/CRATE/proofs/File.antt
-  `any/path`          a file or folder of the repository (target/ is made by rt, and passed over), as crates/raster/proofs/fill;
+  `any/path`          a file or folder of the repository (target/ and a crate's out/ are made, and passed over), as crates/raster/proofs/fill;
                       NAME and LABEL in it stand for any name, of which there must be one
 Other words in backticks mean nothing here. In README.md, CONTRIBUTING.md and docs/*.md each link to a local file must
 lead to one.
@@ -15,7 +15,7 @@ import re
 from repository import ROOT, Report, crates
 import antt
 
-KIT = {"std", "check", "libc", "io", "os", "bytes"}
+KIT = {"std"}
 
 report = Report()
 
@@ -35,7 +35,8 @@ def declared_in_source(crate):
     for source in (ROOT / "crates" / crate / "src").rglob("*.rt"):
         text = source.read_text()
         names.update(re.findall(r"^\s*(?:pub )?(?:extern \"C\" )?(?:fn|struct|enum)\s+(\w+)", text, re.M))
-        names.update(re.findall(r"^pub use (?:\w+::)+(\w+);", text, re.M))
+        for passed_on in re.findall(r"^pub use ([^;]*);", text, re.M):
+            names.update(re.findall(r"(\w+)\s*(?=[,}]|\Z)", passed_on))
     return names
 
 
@@ -70,7 +71,7 @@ def check_declaration(where, crate, file, name):
 
 
 def check_path(where, path):
-    if path.startswith("target/") or "://" in path:
+    if path.startswith("target/") or re.match(r"crates/\w+/out(/|$)", path) or "://" in path:
         return
     pattern = re.sub(r"\b(?:NAME|LABEL)\b", "*", path)
     there = any(ROOT.glob(pattern.strip("/"))) if "*" in pattern else (ROOT / path.lstrip("/")).exists()
