@@ -8,12 +8,12 @@ ROOT = pathlib.Path(__file__).resolve().parent.parent
 
 
 def dependencies():
-    """What crates.txt says: each crate's name, and the names it depends on."""
+    """What crates.txt says: each crate's name, which the word staticlib may follow, and the names it depends on."""
     listed = {}
     for line in (ROOT / "crates.txt").read_text().splitlines():
         name, colon, needed = line.split("#")[0].partition(":")
         if colon:
-            listed[name.strip()] = needed.split()
+            listed[name.split()[0]] = needed.split()
     return listed
 
 
