@@ -1,7 +1,7 @@
 /*
  * svga.h: the host side of a VMware SVGA II display adapter.
  *
- * Link libsvga.a (`rt staticlib svga` writes it to target/staticlib); it needs memcpy and memmove of the C library and nothing else. C99 or
+ * Link libsvga.a (`tools/archive svga` puts it into target/staticlib); it needs memcpy and memmove of the C library and nothing else. C99 or
  * C++.
  *
  * The library has no memory of its own and keeps no pointer. A device is SVGA_DEVICE_WORDS words that you hold, and each call is lent

@@ -1,5 +1,5 @@
 //! Finds the proved library `libsvga.a` and links it: the folder `SVGA_LIB_DIR` if that is set, else `target/staticlib` of the
-//! repository, where `rt staticlib svga` writes it. Where it does not stand there yet, that command is run.
+//! repository, where `tools/archive svga` puts it. Where it does not stand there yet, that command is run.
 
 use std::env;
 use std::path::{Path, PathBuf};
@@ -43,18 +43,18 @@ fn repository_folder() -> PathBuf {
         return folder;
     }
     let wanted = folder.join(ARCHIVE);
-    match Command::new("rt").args(["staticlib", "svga"]).current_dir(&root).output() {
+    match Command::new(root.join("tools/archive")).arg("svga").current_dir(&root).output() {
         Err(error) => {
-            give_up(&format!("{} does not stand, and `rt staticlib svga` cannot be started to make it: {error}", wanted.display()))
+            give_up(&format!("{} does not stand, and `tools/archive svga` cannot be started to make it: {error}", wanted.display()))
         }
         Ok(made) if !made.status.success() => give_up(&format!(
-            "`rt staticlib svga` in {} ended with {}:\n{}{}",
+            "`tools/archive svga` in {} ended with {}:\n{}{}",
             root.display(),
             made.status,
             String::from_utf8_lossy(&made.stdout),
             String::from_utf8_lossy(&made.stderr)
         )),
-        Ok(_) if !wanted.is_file() => give_up(&format!("`rt staticlib svga` in {} wrote no {}", root.display(), wanted.display())),
+        Ok(_) if !wanted.is_file() => give_up(&format!("`tools/archive svga` in {} wrote no {}", root.display(), wanted.display())),
         Ok(_) => folder,
     }
 }
@@ -63,6 +63,6 @@ fn give_up(what: &str) -> ! {
     eprintln!("huacoxepa-svga: {what}");
     eprintln!("huacoxepa-svga: do one of these:");
     eprintln!("  - set SVGA_LIB_DIR to the whole path of a folder that has {ARCHIVE}");
-    eprintln!("  - run `rt staticlib svga` in the repository's root, with the Rattle toolchain (`rt`) on the PATH");
+    eprintln!("  - run `tools/archive svga` in the repository's root, with the Rattle toolchain (`rt`) on the PATH");
     exit(1);
 }
