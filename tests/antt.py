@@ -284,7 +284,7 @@ class File:
             elif re.match(r"(?:unfolding|infix|infixl|infixr) ", first):
                 if first.startswith("unfolding") and declarations:
                     declarations[-1].last = lines[-1][0]
-            elif not re.match(r"(?:pub )?mod \w+$", first):
+            elif not re.match(rf"(?:pub )?mod \w+$|{MARKS}ruleset ", first):  # a ruleset is a list for tactics: it claims nothing
                 self.clause(lines, declarations)
         except (Unreadable, ValueError) as error:
             raise Unreadable(f"line {number}: {error}") from None

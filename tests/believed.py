@@ -365,6 +365,8 @@ use Rattle.high.specs.Claim.{Promise}
 abbrev shorthand : ℕ
 shorthand = 4
 
+pub ruleset shorter = (shorthand, idle)
+
 module _ (n : ℕ) where
   pub kept : Promise shorthand
   kept = lemma (idle n)
