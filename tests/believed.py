@@ -26,7 +26,7 @@ PROMISES, MAP = "docs/PROMISES.md", "docs/ARCHITECTURE.md"
 FIRST, BELIEVED, OTHERS = "## Read these first", "## What a reader must believe", "## What need not be believed"
 DENIAL = "Nothing here has to be believed"
 EXAMPLES = "Refuted"  # the name of the files of examples
-PRELUDE = set("Unit tt ⊥ absurd ¬ Dec yes no now ⌜ ⌝ ∗".split())  # what no use line has to bring
+PRELUDE = set("Unit tt ⊥ absurd ¬".split())  # what no use line has to bring
 
 
 def closing(text, at):
