@@ -15,7 +15,7 @@ import sys
 ROOT = pathlib.Path(__file__).resolve().parent.parent
 TOKEN = re.compile(r"[^\s(){}.;,:|\"`\[\]⌜⌝⟦⟧]+")
 # What the laws' names call words of std.
-WORDS = {"getD": "get_or"}
+WORDS = {"getD": "get_or", "get_d": "get_or"}
 STD = set("length append get_or take drop map replicate sum min max".split())
 # Laws that have a definition's new name after port.py.
 LAWS = set("held_in left_by lent_length one_more read_back rows_fit run_in set_reads too_large turned_by written_out".split())

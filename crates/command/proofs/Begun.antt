@@ -8,7 +8,7 @@ use Prim.Native.Nat.{ℕ, ◌+◌, ◌≤◌, ◌<◌}
 use native.Mathlib.Omega.{arith}
 use lib.ListN.{length, get_or}
 use borrow.Author.Tests.{ne_eqb}
-use Rattle.geometry.proofs.Tabulate.{length-tabulate, get_d_tabulate}
+use Rattle.geometry.proofs.Tabulate.{length-tabulate, get_or-tabulate}
 use Rattle.execution.specs.declared.Cause.TheVariants.{BadOperand, TooLong}
 use Rattle.execution.specs.declared.End.TheVariants.{Waiting, Fault}
 use Rattle.execution.specs.Straight.{Turn, ends, exec}
@@ -59,11 +59,11 @@ module _ (d : Data) (head : List ℕ) (n : ℕ) where
 
   pub word_begun : (i : ℕ) → 1 ≤ i → i < n → get_or (begun d head n) i 0 ≡ get_or head i 0
   unfolding begun
-  word_begun i p q = get_d_tabulate n _ i q ∙ rw (ne_eqb i 0 (omega arith))
+  word_begun i p q = get_or-tabulate n _ i q ∙ rw (ne_eqb i 0 (omega arith))
 
   number_begun : 1 ≤ n → get_or (begun d head n) 0 0 ≡ (entry (kind_with d)).number
   unfolding begun
-  number_begun h = get_d_tabulate n _ 0 (omega arith)
+  number_begun h = get_or-tabulate n _ 0 (omega arith)
 
   kind_with_lem : kind_of (entry (kind_with d)).number ≡ kind_with d
   unfolding kind_of

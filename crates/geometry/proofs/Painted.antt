@@ -12,7 +12,7 @@ use borrow.Rule.Slice.PartMut.{mid_of, post_of, put_mid, same_len_mid}
 use borrow.Table.Steps.{cases}
 use Rattle.geometry.specs.Pixels.{within, tabulate, painted, painted_if}
 use Rattle.geometry.proofs.Tests.{within_in, within_out}
-use Rattle.geometry.proofs.Tabulate.{length-tabulate, get_d_tabulate, is_tabulate}
+use Rattle.geometry.proofs.Tabulate.{length-tabulate, get_or-tabulate, is_tabulate}
 
 pub length-painted : (inside : ℕ → Bool) (new : ℕ → ℕ) (old : List ℕ) → length (painted inside new old) ≡ length old
 unfolding painted
@@ -21,7 +21,7 @@ length-painted inside new old = length-tabulate (length old) _
 pub get_or-painted : (inside : ℕ → Bool) (new : ℕ → ℕ) (old : List ℕ) (k : ℕ) → k < length old
     → get_or (painted inside new old) k 0 ≡ cond (inside k) (new k) (get_or old k 0)
 unfolding painted
-get_or-painted inside new old k h = get_d_tabulate (length old) _ k h
+get_or-painted inside new old k h = get_or-tabulate (length old) _ k h
 
 pub is_painted : (inside : ℕ → Bool) (new : ℕ → ℕ) (old l : List ℕ) → length l ≡ length old
     → ((k : ℕ) → k < length old → get_or l k 0 ≡ cond (inside k) (new k) (get_or old k 0)) → l ≡ painted inside new old
@@ -64,8 +64,8 @@ module _ (fits : Bool) (R : ℕ → Bool) (new : ℕ → ℕ) (old : List ℕ) w
 
 -- ---- a part of a slice that was lent and is back: `mid_of a n l` is the part, and `put_mid a n l row` the slice with row in its place
 
-get_d_past : (xs ys : List ℕ) (k : ℕ) → length xs ≤ k → get_or (xs ++ ys) k 0 ≡ get_or ys (k - length xs) 0
-get_d_past xs ys k h =
+get_or_past : (xs ys : List ℕ) (k : ℕ) → length xs ≤ k → get_or (xs ++ ys) k 0 ≡ get_or ys (k - length xs) 0
+get_or_past xs ys k h =
     let e : length xs + (k - length xs) ≡ k = omega arith in
     rw e at (get_or-append-add xs ys (k - length xs) 0)
 
@@ -79,7 +79,7 @@ module _ (l row : List ℕ) (a n : ℕ) (fits : a + n ≤ length l) where
   pub get_or-put_in : length row ≡ n → (k : ℕ) → a ≤ k → k < a + n → get_or (put_mid a n l row) k 0 ≡ get_or row (k - a) 0
   get_or-put_in e k lo hi =
       let f : length (take a l) ≡ a = length-take-le a l (omega arith) in
-      get_d_past (take a l) (row ++ post_of a n l) k (omega arith) ∙ rw f (get_or-append row (post_of a n l) 0 (k - a) (omega arith))
+      get_or_past (take a l) (row ++ post_of a n l) k (omega arith) ∙ rw f (get_or-append row (post_of a n l) 0 (k - a) (omega arith))
 
   pub get_or_put_out : length row ≡ n → (k : ℕ) → within a n k ≡ false → get_or (put_mid a n l row) k 0 ≡ get_or l k 0
   get_or_put_out e k o =
@@ -88,8 +88,8 @@ module _ (l row : List ℕ) (a n : ℕ) (fits : a + n ≤ length l) where
       (λ (b : k < a). get_or-append (take a l) (row ++ post_of a n l) 0 k (omega arith) ∙ get_or-take a l k 0 b)
       (λ (b : a + n ≤ k).
       let g : a + (n + (k - a - n)) ≡ k = omega arith in
-      get_d_past (take a l) (row ++ post_of a n l) k (omega arith)
-      ∙ rw f (get_d_past row (post_of a n l) (k - a) (omega arith) ∙ rw (e, get_or-drop, get_or-drop, g)))
+      get_or_past (take a l) (row ++ post_of a n l) k (omega arith)
+      ∙ rw f (get_or_past row (post_of a n l) (k - a) (omega arith) ∙ rw (e, get_or-drop, get_or-drop, g)))
       (within_out a n k o)
 
 -- the part's element that place k is
@@ -116,7 +116,7 @@ put_painted l row a n g fit is =
     (λ k h. cases (within a n k)
     (λ t.
     let b = within_in a n k t in
-    get_or-put_in l row a n fit len k b.0 b.1 ∙ rw (is-n, get_d_tabulate n g (k - a) (omega arith), t))
+    get_or-put_in l row a n fit len k b.0 b.1 ∙ rw (is-n, get_or-tabulate n g (k - a) (omega arith), t))
     (λ f. get_or_put_out l row a n fit len k f ∙ rw f))
 
 -- a painter's loop, of which l is the screen so far: its invariant, and what a turn asks

@@ -15,7 +15,7 @@ use borrow.Table.Steps.{cases}
 use Rattle.geometry.specs.Pixels.{place_of, column_of, row_of, within, in_rect, tabulate, painted}
 use Rattle.geometry.specs.Parts.{front, moved, next, done_from, Inside, Ordered, after}
 use Rattle.geometry.proofs.Tests.{same_bool, within_in, within_yes, within_before, within_past, within_out}
-use Rattle.geometry.proofs.Tabulate.{get_d_front}
+use Rattle.geometry.proofs.Tabulate.{get_or-front}
 use Rattle.geometry.proofs.Painted.{painted_same, none_painted, length_mid, get_or_mid, get_or_mid_back, put_painted, Adds, Done, done_off, done_more}
 
 -- ---- a pixel and its place
@@ -146,7 +146,7 @@ row_moved s line line₀ row from to n f hf ht is-line is_row =
     let b = within_in to n k t in
     let e : from + (k - to) ≡ k - to + from = omega arith in
     let p : get_or line (k - to) 0 ≡ get_or s (k - to + from) 0 =
-    rw (is-line, length_mid s [] from n hf, get_d_front n (λ i. get_or (mid_of from n s) i 0) line₀ (k - to) (omega arith), get_or_mid s [] from n hf (k - to) (omega arith), e) in
+    rw (is-line, length_mid s [] from n hf, get_or-front n (λ i. get_or (mid_of from n s) i 0) line₀ (k - to) (omega arith), get_or_mid s [] from n hf (k - to) (omega arith), e) in
     rw (p, get_or_mid_back s to n ht k t))
 
 -- the next k of the sources are none of the destinations done so far

@@ -16,17 +16,17 @@ unfolding tabulate
 length-tabulate zero f = refl
 length-tabulate (suc n) f = ap suc (length-tabulate n (λ k. f (suc k)))
 
-pub get_d_tabulate : (n : ℕ) (f : ℕ → ℕ) (k : ℕ) → k < n → get_or (tabulate n f) k 0 ≡ f k
+pub get_or-tabulate : (n : ℕ) (f : ℕ → ℕ) (k : ℕ) → k < n → get_or (tabulate n f) k 0 ≡ f k
 unfolding tabulate
-get_d_tabulate zero f k h = absurd (not-suc-le-zero h)
-get_d_tabulate (suc n) f zero h = refl
-get_d_tabulate (suc n) f (suc k) h = get_d_tabulate n (λ j. f (suc j)) k (le_of_suc-le-suc h)
+get_or-tabulate zero f k h = absurd (not-suc-le-zero h)
+get_or-tabulate (suc n) f zero h = refl
+get_or-tabulate (suc n) f (suc k) h = get_or-tabulate n (λ j. f (suc j)) k (le_of_suc-le-suc h)
 
 -- a list is the table of its length and its elements
 pub is_tabulate : (l : List ℕ) (n : ℕ) (f : ℕ → ℕ) → length l ≡ n → ((k : ℕ) → k < n → get_or l k 0 ≡ f k) → l ≡ tabulate n f
 is_tabulate l n f e h =
     ext_get_or 0 l (tabulate n f) (e ∙ sym (length-tabulate n f))
-    (λ k lt. let b : k < n = omega arith in h k b ∙ sym (get_d_tabulate n f k b))
+    (λ k lt. let b : k < n = omega arith in h k b ∙ sym (get_or-tabulate n f k b))
 
 -- ---- a loop that stores f 0, f 1, .. over d from the front: its invariant, and what a turn and the end ask
 
@@ -47,8 +47,8 @@ front_at i f [] h = absurd (not-suc-le-zero h)
 front_at zero f (x ∷ d) h = refl
 front_at (suc i) f (x ∷ d) h = front_at i (λ k. f (suc k)) d (le_of_suc-le-suc h)
 
-pub get_d_front : (n : ℕ) (f : ℕ → ℕ) (d : List ℕ) (k : ℕ) → k < n → get_or (front n f d) k 0 ≡ f k
-get_d_front n f d k h = get_or-append (tabulate n f) (drop n d) 0 k (omega (arith, length-tabulate n f)) ∙ get_d_tabulate n f k h
+pub get_or-front : (n : ℕ) (f : ℕ → ℕ) (d : List ℕ) (k : ℕ) → k < n → get_or (front n f d) k 0 ≡ f k
+get_or-front n f d k h = get_or-append (tabulate n f) (drop n d) 0 k (omega (arith, length-tabulate n f)) ∙ get_or-tabulate n f k h
 
 pub front_start : (f : ℕ → ℕ) (d : List ℕ) → Front f d d 0
 unfolding tabulate

@@ -59,18 +59,18 @@ length-words ring lo hi p zero = refl
 length-words ring lo hi p (suc n) = ap suc (length-words ring lo hi (after lo hi p) n)
 
 -- word i is at the place i words on
-pub get_d_words : (ring : List ℕ) (lo hi p n i : ℕ) → InRing lo hi p n → i < n → get_or (words ring lo hi p n) i 0 ≡ get_or ring (ahead lo hi p i) 0
+pub get_or-words : (ring : List ℕ) (lo hi p n i : ℕ) → InRing lo hi p n → i < n → get_or (words ring lo hi p n) i 0 ≡ get_or ring (ahead lo hi p i) 0
 unfolding words
-get_d_words ring lo hi p zero i h l = let z : ⊥ = omega arith in absurd z
-get_d_words ring lo hi p (suc n) zero h l = rw (ahead_zero lo hi p h.below)
-get_d_words ring lo hi p (suc n) (suc i) h l =
-    get_d_words ring lo hi (after lo hi p) n i (next_in lo hi p n h) (omega arith)
+get_or-words ring lo hi p zero i h l = let z : ⊥ = omega arith in absurd z
+get_or-words ring lo hi p (suc n) zero h l = rw (ahead_zero lo hi p h.below)
+get_or-words ring lo hi p (suc n) (suc i) h l =
+    get_or-words ring lo hi (after lo hi p) n i (next_in lo hi p n h) (omega arith)
     ∙ ap (λ k. get_or ring k 0) (ahead_after lo hi p i (record { from = h.from; below = h.below; held = omega arith }))
 
 -- where the ring does not end before it, word i is at the place i further on
 pub get_or_straight : (ring : List ℕ) (lo hi p n i : ℕ) → InRing lo hi p n → i < n → p + i < hi → get_or (words ring lo hi p n) i 0 ≡ get_or ring (p + i) 0
 unfolding ahead
-get_or_straight ring lo hi p n i h l d = get_d_words ring lo hi p n i h l ∙ rw (lt-ltb (p + i) hi d)
+get_or_straight ring lo hi p n i h l d = get_or-words ring lo hi p n i h l ∙ rw (lt-ltb (p + i) hi d)
 
 pub take_words : (ring : List ℕ) (lo hi p n k : ℕ) → k ≤ n → take k (words ring lo hi p n) ≡ words ring lo hi p k
 unfolding words

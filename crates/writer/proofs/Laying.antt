@@ -8,7 +8,7 @@ use native.Mathlib.Omega.{arith}
 use lib.ListN.{length, get_or, set, take, drop, length-set, length-append, length-drop, take-append-drop}
 use lib.Seq.{sets, sets-eq, paste, take_all, take-length, take-take, take-suc, length-take-le, get_or-set_other, set-get_or, set-set, set_comm}
 use borrow.Author.Tests.{lt-ltb, le-ltb}
-use Rattle.geometry.proofs.Tabulate.{length-tabulate, get_d_tabulate}
+use Rattle.geometry.proofs.Tabulate.{length-tabulate, get_or-tabulate}
 use Rattle.ring.specs.Acceptance.{min_of, max_of, next_of, stop_of, Usable}
 use Rattle.ring.specs.Append.{moved_on, can_append, append_to}
 use Rattle.ring.specs.Waiting.{after, ahead}
@@ -125,7 +125,7 @@ length_data bytes = length-tabulate ((length bytes + 3) / 4) (λ i. word_from by
 -- each is of four bytes
 pub data_word : (bytes : List ℕ) (j : ℕ) → j < (length bytes + 3) / 4 → get_or (data_words bytes) j 0 ≡ word_from bytes (4 * j)
 unfolding data_words
-data_word bytes j h = get_d_tabulate ((length bytes + 3) / 4) (λ i. word_from bytes (4 * i)) j h
+data_word bytes j h = get_or-tabulate ((length bytes + 3) / 4) (λ i. word_from bytes (4 * i)) j h
 
 -- ---- a command's words
 
