@@ -15,7 +15,9 @@ import sys
 ROOT = pathlib.Path(__file__).resolve().parent.parent
 TOKEN = re.compile(r"[^\s(){}.;,:|\"`\[\]⌜⌝⟦⟧]+")
 # What the laws' names call words of std.
-WORDS = {"getD": "get_or", "get_d": "get_or"}
+WORDS = {"getD": "get_or"}
+# Laws on such a word that port.py respelled otherwise.
+ON_WORDS = {"get_d_words": "get_or-words", "get_d_tabulate": "get_or-tabulate", "get_d_front": "get_or-front", "get_d_past": "get_or_past"}
 STD = set("length append get_or take drop map replicate sum min max".split())
 # Laws that have a definition's new name after port.py.
 LAWS = set("held_in left_by lent_length one_more read_back rows_fit run_in set_reads too_large turned_by written_out".split())
@@ -84,10 +86,10 @@ def renamed():
             names.setdefault(name, set()).add(str(file.relative_to(ROOT)))
             if is_definition and "-" not in name:
                 definitions.add(snake(name))
-    spelled = {it: f"{it}_lem" for it in LAWS}
+    spelled = {**ON_WORDS, **{it: f"{it}_lem" for it in LAWS}}
     camel = {snake(it) for it in names if "-" not in it}
     for name in names:
-        if "◌" in name or name.startswith("+") or name in LAWS:
+        if "◌" in name or name.startswith("+") or name in LAWS or name in ON_WORDS:
             continue
         new = joined(name, definitions) if "-" in name else snake(name)
         if "-" in name and new in camel:
