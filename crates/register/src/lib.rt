@@ -50,6 +50,7 @@ pub enum Register {
 
 // The register with a number.
 // Rules out: 28 taken for absent; a palette register (1024 and on) taken for one that is there.
+#[tactic(auto, using(crate::proofs::Laws::absent), unfolding(crate::specs::Numbers::numbers, crate::specs::Numbers::register_of))]
 pub fn register_of(index: u32) -> Register
     ensures { result ≡ register_of index }
 {

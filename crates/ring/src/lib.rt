@@ -44,6 +44,7 @@ pub fn append_number(answer: AppendAnswer) -> u32
     }
 }
 
+#[tactic(auto, unfolding(crate::specs::Acceptance::offset_usable))]
 fn offset_usable(min: u32, max: u32, offset: u32) -> bool
     ensures { result ≡ offset_usable min max offset }
 {
@@ -56,6 +57,7 @@ fn offset_usable(min: u32, max: u32, offset: u32) -> bool
     offset < max
 }
 
+#[tactic(auto, unfolding(crate::specs::Acceptance::bounds_usable))]
 fn bounds_usable(words: usize, min: u32, max: u32) -> bool
     ensures { result ≡ bounds_usable words min max }
 {
@@ -76,6 +78,7 @@ fn bounds_usable(words: usize, min: u32, max: u32) -> bool
 
 // Whether ring words 0 to 3 describe a ring in this memory.
 // Rules out: a ring of 10,236 bytes; a NEXT_CMD or STOP equal to MAX.
+#[tactic(auto, unfolding(crate::specs::Acceptance::usable))]
 pub fn is_usable(ring: &[u32]) -> bool
     ensures { result ≡ usable ring.now }
 {
@@ -97,6 +100,7 @@ pub fn is_usable(ring: &[u32]) -> bool
 
 // What CONFIG_DONE 1 remembers of the ring words, or that they are refused.
 // Rules out: NEXT_CMD remembered for STOP; a refused ring remembered in part.
+#[tactic(auto, using(crate::proofs::Laws::usable_when), unfolding(crate::specs::Acceptance::accepted))]
 pub fn accept(ring: &[u32]) -> Acceptance
     ensures { result ≡ accepted ring.now }
 {
@@ -113,6 +117,7 @@ pub fn accept(ring: &[u32]) -> Acceptance
 
 // Whether a remembered ring lies in a memory of so many words as acceptance asks.
 // Rules out: a STOP equal to MAX; a ring over words 0 to 3; a ring of 2,559 words.
+#[tactic(auto, unfolding(crate::specs::Waiting::placed))]
 pub fn is_placed(g: Ring, words: usize) -> bool
     ensures { result ≡ placed g words }
 {
@@ -133,6 +138,7 @@ pub fn is_placed(g: Ring, words: usize) -> bool
 
 // Whether a run can go by NEXT_CMD: a multiple of 4 inside the remembered ring.
 // Rules out: a NEXT_CMD equal to MAX; one that is no multiple of 4.
+#[tactic(auto, unfolding(crate::specs::Waiting::next_good))]
 pub fn next_good(g: Ring, next: u32) -> bool
     ensures { result ≡ next_good g next }
 {
@@ -145,6 +151,7 @@ pub fn next_good(g: Ring, next: u32) -> bool
     next / 4 < g.max
 }
 
+#[tactic(auto, unfolding(crate::specs::Append::moved_on))]
 fn moved_on(min: u32, max: u32, offset: u32) -> u32
     requires { offset + 4 ≤ max }
     ensures { result ≡ moved_on min max offset }
@@ -158,6 +165,7 @@ fn moved_on(min: u32, max: u32, offset: u32) -> u32
 
 // The guest's append: its word at NEXT_CMD, and NEXT_CMD moved on; refused where the ring is full or its words are not usable.
 // Rules out: a full ring that takes one word more; NEXT_CMD moved on to MAX instead of MIN; a word stored by an append that is refused.
+#[tactic(auto, using(crate::proofs::Laws::usable_when, crate::proofs::AppendLaws::append_of_unusable, crate::proofs::AppendLaws::append_of_full, crate::proofs::AppendLaws::append_of_taken))]
 pub fn append(ring: &mut [u32], word: u32) -> AppendAnswer
     ensures { appended result ring.new ≡ append_of ring.old word }
 {
