@@ -79,6 +79,7 @@ pub enum Making {
 
 // ---- well-formed devices
 
+#[tactic(auto, unfolding(crate::specs::Device::sizes_good))]
 fn sizes_good(memory: u32, pixels: u32) -> bool
     ensures { result ≡ sizes_good memory pixels }
 {
@@ -97,6 +98,7 @@ fn sizes_good(memory: u32, pixels: u32) -> bool
     pixels <= MAX_PIXELS
 }
 
+#[tactic(auto, unfolding(crate::specs::Device::mode_good))]
 fn mode_good(width: u32, height: u32) -> bool
     ensures { result ≡ mode_good width height }
 {
@@ -112,6 +114,7 @@ fn mode_good(width: u32, height: u32) -> bool
     height <= MAX_HEIGHT
 }
 
+#[tactic(auto, unfolding(crate::specs::Device::condition_good))]
 fn condition_good(memory: u32, config: bool, condition: Condition) -> bool
     ensures { result ≡ condition_good memory config condition }
 {
@@ -131,6 +134,7 @@ fn condition_good(memory: u32, config: bool, condition: Condition) -> bool
     }
 }
 
+#[tactic(auto, unfolding(crate::specs::Device::defined_good))]
 fn defined_good(defined: Defined) -> bool
     ensures { result ≡ defined_good defined }
 {
@@ -146,6 +150,7 @@ fn defined_good(defined: Defined) -> bool
 
 // Whether a device has what every call keeps: sizes, mode, ring, condition and cursor in their ranges and agreeing.
 // Rules out: a device with CONFIG_DONE 1 and no ring; a mode of 2,561 pixels to a row.
+#[tactic(auto, unfolding(crate::specs::Device::well_formed))]
 pub fn is_well_formed(d: Device) -> bool
     ensures { result ≡ well_formed d }
 {
@@ -173,6 +178,7 @@ pub fn is_well_formed(d: Device) -> bool
 
 // A fresh device for a ring memory of memory bytes and pixels pixels.
 // Rules out: a device for a memory of 10,252 bytes; a fresh device that is enabled.
+#[tactic(auto, unfolding(crate::specs::Making::made_of))]
 pub fn make(memory: u32, pixels: u32) -> Making
     ensures { creation result ≡ made_of memory pixels }
 {

@@ -33,6 +33,7 @@ fn edges_of(width: u32, height: u32, pixels: u32) -> Edges
 
 // The usable offscreen rectangle. It may be empty.
 // Rules out: a bottom edge rounded up; a right edge that divides by the depth; four zeros for an empty rectangle.
+#[tactic(auto, unfolding(crate::specs::Offscreen::offscreen_of, register_read::specs::Registers::read_only_value))]
 pub fn offscreen(d: Device) -> Edges
     ensures { result ≡ offscreen_of d }
 {

@@ -24,6 +24,7 @@ fn bit_of(b: bool) -> u32
     0
 }
 
+#[tactic(auto, unfolding(crate::specs::Registers::writable_value))]
 fn writable_value(g: Registers, w: Writable) -> u32
     ensures { result ≡ writable_value g w }
 {
@@ -42,6 +43,7 @@ fn writable_value(g: Registers, w: Writable) -> u32
     }
 }
 
+#[tactic(auto, using(device::proofs::Laws::well_formed_lem, device::proofs::Laws::fb_size_fits), unfolding(crate::specs::Registers::read_only_value))]
 fn read_only_value(d: Device, r: ReadOnly) -> u32
     requires { well_formed d ≡ true }
     ensures { result ≡ read_only_value d.sizes (width_of d) (height_of d) d.busy r }
@@ -72,6 +74,7 @@ fn read_only_value(d: Device, r: ReadOnly) -> u32
 
 // What a register reads.
 // Rules out: BYTES_PER_LINE of the mode before WIDTH was written; a value for a palette register.
+#[tactic(auto, unfolding(crate::specs::Registers::read_of, crate::specs::Registers::read_by))]
 pub fn read(d: Device, index: u32) -> Value
     ensures { reading result ≡ read_of d index }
 {

@@ -55,6 +55,7 @@ fn up_to(value: u32, high: u32) -> bool
     value <= high
 }
 
+#[tactic(auto, unfolding(crate::specs::Registers::in_range))]
 fn in_range(w: Writable, value: u32) -> bool
     ensures { result ≡ in_range w value }
 {
@@ -75,6 +76,7 @@ fn in_range(w: Writable, value: u32) -> bool
 
 // ---- the effects: what a value in its range does
 
+#[tactic(auto, unfolding(crate::specs::Registers::id_written))]
 fn write_id(d: Device, value: u32) -> Device
     ensures { result ≡ id_written d value }
 {
@@ -91,6 +93,7 @@ fn write_id(d: Device, value: u32) -> Device
     }
 }
 
+#[tactic(auto, unfolding(crate::specs::Registers::enable_written))]
 fn write_enable(d: Device, value: u32) -> Device
     ensures { result ≡ enable_written d value }
 {
@@ -170,6 +173,7 @@ fn is_running(condition: Condition) -> bool
     }
 }
 
+#[tactic(auto, unfolding(crate::specs::Registers::synced))]
 fn sync(d: Device) -> Device
     ensures { result ≡ synced d }
 {
@@ -234,6 +238,7 @@ fn write_cursor_y(d: Device, value: u32) -> Device
 }
 
 // What CURSOR_ON makes of the cursor plane.
+#[tactic(auto, unfolding(crate::specs::Registers::plane_on))]
 fn plane_on(d: Device, value: u32) -> Plane
     ensures { result ≡ plane_on d value }
 {
@@ -271,6 +276,7 @@ fn write_cursor_on(d: Device, value: u32) -> Device
     }
 }
 
+#[tactic(auto, unfolding(crate::specs::Registers::effect_of))]
 fn effect(d: Device, value: u32, w: Writable) -> Device
     ensures { result ≡ effect_of d value w }
 {
@@ -291,6 +297,7 @@ fn effect(d: Device, value: u32, w: Writable) -> Device
 
 // ---- CONFIG_DONE 1, the one write that asks for the ring
 
+#[tactic(auto, unfolding(crate::specs::Registers::ring_asked))]
 fn ring_asked(w: Writable, value: u32) -> bool
     ensures { result ≡ ring_asked w value }
 {
@@ -310,6 +317,7 @@ fn ring_asked(w: Writable, value: u32) -> bool
 }
 
 // Ring words that are accepted or refused.
+#[tactic(auto, unfolding(crate::specs::Registers::accepted_written))]
 fn configure(d: Device, acceptance: Acceptance) -> Written
     ensures { write_outcome result ≡ accepted_written d acceptance }
 {
@@ -334,6 +342,7 @@ fn configure(d: Device, acceptance: Acceptance) -> Written
     }
 }
 
+#[tactic(auto, unfolding(crate::specs::Registers::ring_written))]
 fn write_ring(d: Device, ring: &[u32]) -> Written
     ensures { write_outcome result ≡ ring_written d ring.now }
 {
@@ -350,6 +359,7 @@ fn write_ring(d: Device, ring: &[u32]) -> Written
 
 // ---- writing a register
 
+#[tactic(auto, unfolding(crate::specs::Registers::writable_written))]
 fn write_writable(d: Device, ring: &[u32], w: Writable, value: u32) -> Written
     ensures { write_outcome result ≡ writable_written d ring.now value w }
 {
@@ -372,6 +382,7 @@ fn write_writable(d: Device, ring: &[u32], w: Writable, value: u32) -> Written
 
 // A register write. The ring is looked at by CONFIG_DONE 1 only.
 // Rules out: a refused write that changes the device; 32 for a read-only register; a refused ring that clears a fault.
+#[tactic(auto, unfolding(crate::specs::Registers::written, crate::specs::Registers::written_by))]
 pub fn write(d: Device, ring: &[u32], index: u32, value: u32) -> Written
     ensures { write_outcome result ≡ written d ring.now index value }
 {
