@@ -11,7 +11,6 @@ use lib.ListN.{length, take, length-take}
 use lib.Seq.{take_all}
 use borrow.Author.Tests.{leb-true, leb-false, lt-leb}
 use borrow.Table.Steps.{cases}
-use Rattle.console_lines.specs.declared.Request.{Request}
 use Rattle.console_lines.specs.declared.Request.TheVariants.{Bad}
 use Rattle.console_lines.specs.Lines.{in_first, fields, number_of, with_one, with_two, request_in, request_of, word_w, word_r, word_p, word_f, word_run, word_s}
 use Rattle.console_lines.proofs.Words.{other_length}
