@@ -1,5 +1,5 @@
 // The console: reads requests from standard input, a line each, and prints the answers. What is read and what is printed
-// is `console_session`'s; here are the calls of read and write.
+// is `console_session`'s; here are the reads and the writes.
 #![tactic(auto)]
 
 ghost use Rattle.std.specs.Prelude.{◌≤◌, ◌≡◌, ◌&&◌, ltb, length, take};
@@ -9,7 +9,7 @@ ghost use Rattle.console_session.specs.Session.{state_of, unprinted, fed_all, en
 
 use console_session::{PIXELS, RING_WORDS, Session, Start};
 use cursor::IMAGE_WORDS;
-use libc::{STDIN_FILENO, STDOUT_FILENO};
+use std::io::{Read, Write};
 
 // A session, the bytes that were read for it, and whether there may be more.
 #[derive(Clone, Copy)]
@@ -20,17 +20,23 @@ struct Step {
 }
 
 // One read: how many bytes of the buffer it filled, 0 at the end of the input or where the read fails.
-fn fill(buffer: &mut [u8]) -> usize
+fn fill<R: Read>(input: &mut R, buffer: &mut [u8]) -> usize
     ensures { result ≤ length buffer.new }
 {
-    let got = libc::read(STDIN_FILENO, buffer);
-    io::count(got, buffer)
+    match input.read(buffer) {
+        Ok(got) => got,
+        Err(_) => 0,
+    }
 }
 
-fn write_out(out: &[u8], n: usize) -> bool
+// Writes the first n bytes of out, and leaves none of them waiting: false where that fails.
+fn write_out<W: Write>(output: &mut W, out: &[u8], n: usize) -> bool
     requires { n ≤ length out.now }
 {
-    io::write_all(STDOUT_FILENO, &out[0..n])
+    match output.write_all(&out[0..n]) {
+        Ok(()) => output.flush().is_ok(),
+        Err(_) => false,
+    }
 }
 
 // Nothing read is the input's end; nobody reads what cannot be written.
@@ -44,7 +50,9 @@ fn goes_on(sent: bool, n: usize) -> bool
 }
 
 // One read, its lines, one write. Every byte read is fed: there is always room.
-fn turn(
+fn turn<R: Read, W: Write>(
+    input: &mut R,
+    output: &mut W,
     s: Session,
     buffer: &mut [u8],
     line: &mut [u8],
@@ -59,7 +67,7 @@ fn turn(
         ≡ flushed (fed_all (state_of s line.old (lent ring.old framebuffer.old screen.old cursor.old) out.old) (take result.read buffer.new)) }
     ensures room { Within result.session (length buffer.old) (length line.old) (length out.old) }
 {
-    let n = fill(buffer);
+    let n = fill(input, buffer);
     let fed = console_session::feed(
         s,
         &buffer[0..n],
@@ -70,7 +78,7 @@ fn turn(
         cursor,
         out,
     );
-    let sent = write_out(out, fed.printed);
+    let sent = write_out(output, out, fed.printed);
     let session = console_session::flush(fed);
     let more = goes_on(sent, n);
     Step {
@@ -83,7 +91,9 @@ fn turn(
 // Reads and feeds until the input ends. Nothing says that it does, and a proved loop has to: turns are counted down from a number that no
 // input uses up. No contract can say which bytes the reads gave; it says that there are such chunks.
 // Rules out: a device or a memory that no input leads to; a line held that none leaves.
-fn serve(
+fn serve<R: Read, W: Write>(
+    input: &mut R,
+    output: &mut W,
     s: Session,
     buffer: &mut [u8],
     line: &mut [u8],
@@ -102,6 +112,8 @@ fn serve(
     let mut turns = u64::MAX;
     while turns > 0 {
         let t = turn(
+            input,
+            output,
             session,
             buffer,
             line,
@@ -119,7 +131,8 @@ fn serve(
 
 // A last line without newline is answered, and its text written out.
 // Rules out: a last line that does nothing; a byte of out behind the text that changes.
-fn end(
+fn end<W: Write>(
+    output: &mut W,
     s: Session,
     line: &[u8],
     ring: &mut [u32],
@@ -135,12 +148,14 @@ fn end(
         ≡ put_at out.old s.printed (ended (unprinted s line.now (lent ring.old framebuffer.old screen.old cursor.old))).printed }
 {
     let ended = console_session::finish(s, line, ring, framebuffer, screen, cursor, out);
-    write_out(out, ended.printed);
+    write_out(output, out, ended.printed);
 }
 
 // M = 10,256 bytes, P = 1,024 pixels, a cursor image of 64 by 64; room for 26 bytes of text to each byte of a chunk.
-fn main() {
-    let mut buffer = io::buffer();
+fn main(rt: HostRuntime) {
+    let mut input = rt.stdin();
+    let mut output = rt.stdout();
+    let mut buffer = [0u8; 4096];
     let mut line = [0u8; 32];
     let mut ring = [0u32; RING_WORDS];
     let mut framebuffer = [0u32; PIXELS as usize];
@@ -152,6 +167,8 @@ fn main() {
         return;
     };
     let served = serve(
+        &mut input,
+        &mut output,
         session,
         &mut buffer,
         &mut line,
@@ -162,6 +179,7 @@ fn main() {
         &mut out,
     );
     end(
+        &mut output,
         served,
         &line,
         &mut ring,
