@@ -47,6 +47,7 @@ fn copy(
 
 // The screen's part of an action, whether fences are posted or not. An update keeps to the mode; fills and copies reach all rows.
 // Rules out: a fill that reads the framebuffer; an update that paints offscreen rows; a copy that ends at the mode's last row.
+#[tactic(auto, using(crate::proofs::ByRows::fill_by_rows, crate::proofs::ByRows::copy_by_rows), unfolding(crate::specs::Effects::screen_after))]
 pub fn draw(action: Action, framebuffer: &[u32], screen: &mut [u32], frame: Frame)
     ensures { (posts : Bool) → screen.new ≡ screen_after (scene frame framebuffer.now posts) action screen.old }
 {
@@ -68,6 +69,7 @@ pub fn draw(action: Action, framebuffer: &[u32], screen: &mut [u32], frame: Fram
 
 // The last fence after an action.
 // Rules out: a fence of 0 left out; an update that clears it.
+#[tactic(auto, unfolding(crate::specs::Effects::fence_after))]
 pub fn fence_after(action: Action, fence: u32) -> u32
     ensures { result ≡ fence_after action fence }
 {
@@ -82,6 +84,7 @@ pub fn fence_after(action: Action, fence: u32) -> u32
 }
 
 // The defined cursor after an action.
+#[tactic(auto, unfolding(crate::specs::Effects::defined_after))]
 fn defined_after(action: Action, defined: Defined) -> Defined
     ensures { result ≡ defined_after action defined }
 {

@@ -51,6 +51,7 @@ pub struct RingRun {
 }
 
 // How many words lie from place p up to place q of a ring from lo to below hi.
+#[tactic(auto, unfolding(ring::specs::Waiting::between))]
 fn words_between(lo: usize, hi: usize, p: usize, q: usize) -> usize
     requires { (lo ≤ p) × (p < hi) × (lo ≤ q) × (q < hi) × (hi < 4294967296) }
     ensures { result ≡ between lo hi p q }
@@ -81,6 +82,7 @@ fn view_of(at: Ring, next: u32) -> View
 // ---- a command executed
 
 // "ring word 3 is written": the only function that writes it. STOP has come to word at.
+#[tactic(auto, unfolding(crate::specs::Run::stamped))]
 fn stamp(ring: &mut [u32], at: usize)
     requires { (4 ≤ length ring.old) × (at ≤ max_words) }
     ensures { ring.new ≡ stamped at ring.old }
@@ -89,6 +91,7 @@ fn stamp(ring: &mut [u32], at: usize)
 }
 
 // "an executed FENCE also writes its number to word 6": the only function that writes it.
+#[tactic(auto, unfolding(crate::specs::Run::posting))]
 fn post(ring: &mut [u32], number: u32)
     requires { 7 ≤ length ring.old }
     ensures { ring.new ≡ posting true number ring.old }
@@ -97,6 +100,7 @@ fn post(ring: &mut [u32], number: u32)
 }
 
 // Word 6's part of an action, where fences are posted there.
+#[tactic(auto, using(crate::proofs::Posting::posting_same), unfolding(effect::specs::Effects::posted_after, crate::specs::Run::posting))]
 fn post_fence(action: Action, posts: bool, ring: &mut [u32])
     requires { Clear posts (length ring.old) }
     ensures { ring.new ≡ posting posts (posted_after posts action (posted_in posts ring.old)) ring.old }
@@ -167,6 +171,7 @@ fn copy_pixels(ring: &[u32], v: View, count: usize, cursor: &mut [u32])
 }
 
 // The cursor image's part of an action.
+#[tactic(auto, unfolding(effect::specs::Effects::cursor_after))]
 fn bring_cursor(action: Action, ring: &[u32], v: View, cursor: &mut [u32])
     requires in_view { InView v (length ring.now) }
     requires ready { Ready action v.n }
@@ -184,6 +189,7 @@ fn bring_cursor(action: Action, ring: &[u32], v: View, cursor: &mut [u32])
 }
 
 // A view behind its first size words.
+#[tactic(auto, unfolding(ring::specs::Waiting::ahead))]
 fn pass(v: View, size: usize) -> View
     requires { (v.lo ≤ v.at) × (v.at < v.hi) × (size ≤ v.n) × (v.n + v.lo < v.hi) × (v.hi ≤ max_words) }
     ensures { result ≡ passed_in v size }
@@ -341,6 +347,7 @@ fn line_turn(
 }
 
 // Where the words of a view end that lie in a row.
+#[tactic(auto, unfolding(crate::specs::Turns::row_end))]
 fn row_end(v: View) -> usize
     requires { (v.at < v.hi) × (v.n + v.lo < v.hi) × (v.hi ≤ max_words) }
     ensures { result ≡ row_end v }
@@ -446,6 +453,7 @@ fn fill_line(ring: &[u32], v: View, line: &mut [u32]) -> usize
 }
 
 // What a line's command posted there, into the ring. A command that posts nothing leaves word 6 unwritten.
+#[tactic(auto, unfolding(crate::specs::Run::posting, crate::specs::Run::posted_in))]
 fn bring_posted(line: &[u32], posts: bool, ring: &mut [u32])
     requires { (7 ≤ length line.now) × (7 ≤ length ring.old) }
     ensures { ring.new ≡ posting posts (posted_in posts line.now) ring.old }
@@ -582,6 +590,7 @@ fn turns(
 }
 
 // Whether the remembered ring lies in the ring memory and the cursor image is one.
+#[tactic(auto, unfolding(crate::specs::Run::fitting))]
 fn is_fitting(at: Ring, words: usize, image: usize) -> bool
     ensures { result ≡ fitting at words image }
 {
@@ -596,6 +605,7 @@ fn is_fitting(at: Ring, words: usize, image: usize) -> bool
 }
 
 // The answer where NEXT_CMD is unusable: the budget is looked at first.
+#[tactic(auto, unfolding(crate::specs::Turns::next_unusable))]
 fn next_unusable(budget: u32) -> RunEnd
     ensures { answer_of result ≡ next_unusable budget }
 {
