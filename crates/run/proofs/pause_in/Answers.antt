@@ -43,4 +43,4 @@ pub returns-in_default : goal.returns-in_default
 returns-in_default c =
     c.fixed_pause.ensures
     ∙ ap (λ (n : ℕ). cond (ltb (length c.args.row.now) n) Short (Faults BadOperand)) c.head_words.ensures
-    ∙ unnamed c.args.row.now c.requires _ c.kind_of-kind.ensures ? ? ?
+    ∙ unnamed c.args.row.now c.requires _ c.kind_of-kind.ensures c.in_default.not-DefineAlphaCursor c.in_default.not-Escape c.in_default.not-Foreign

@@ -1,0 +1,52 @@
+-- Each command of the row is one turn more of the run.
+use Rattle.std.proofs.Common.{◌≡◌, ℕ, ◌+◌, ◌≤◌, length, ap, ◌∙◌, arith}
+use Rattle.run.specs.Run.{stamped}
+use Rattle.run.proofs.Rows.{row_start, same_row, row_same_length, row_clear, row_fits, row_more}
+use Rattle.run.proofs.row_turns.Goals as goal
+
+pub loop-left-init : goal.loop-left-init
+loop-left-init c = row_start _ _ _ _ _ _ _ c.requires.1
+
+pub slice_bounds-step_in-end : goal.slice_bounds-step_in-end
+slice_bounds-step_in-end c =
+    let p = c.requires in
+    let g = c.loop-left.invariant in
+    let l = row_same_length p.0 p.2 p.4 g in
+    omega (arith, l, g.within)
+
+pub shape_of-memory-in_default : goal.shape_of-memory-in_default
+shape_of-memory-in_default c = let p = c.requires in row_same_length p.0 p.2 p.4 c.loop-left.invariant
+
+pub returns-in_default : goal.returns-in_default
+returns-in_default c =
+    let p = c.requires in
+    let g = c.loop-left.invariant in
+    (g, λ h q. ?)
+
+pub post_fence-requires : goal.post_fence-requires
+post_fence-requires c = let p = c.requires in row_clear p.0 p.2 p.4 c.loop-left.invariant
+
+pub overflow_add-at : goal.overflow_add-at
+overflow_add-at c =
+    let p = c.requires in
+    let f = row_fits p.0 p.2 p.4 c.loop-left.invariant _ _ c.in-Does.ensures in
+    omega (arith, f.1)
+
+pub stamp-requires : goal.stamp-requires
+stamp-requires c =
+    let p = c.requires in
+    let g = c.loop-left.invariant in
+    let l = row_same_length p.0 p.2 p.4 g in
+    let f = row_fits p.0 p.2 p.4 g _ _ c.in-Does.ensures in
+    let kept = c.post_fence.auto.ring in
+    (omega (arith, l, kept, g.from, g.within), omega (arith, f.1))
+
+pub loop-left-preserved : goal.loop-left-preserved
+loop-left-preserved c =
+    let p = c.requires in
+    let at = c.loop-left in
+    let wrote = c.stamp.ensures ∙ ap (stamped (at.at + c.in-Does.size)) c.post_fence.ensures in
+    row_more p.0 p.2 p.4 at.invariant _ _ c.in-Does.ensures c.loop-left-test.true _ wrote _ (c.draw.ensures c.args.posts) _ c.fence_after-fence.ensures
+
+pub shape_of-memory : goal.shape_of-memory
+shape_of-memory c = let p = c.requires in row_same_length p.0 p.2 p.4 c.loop-left.invariant
