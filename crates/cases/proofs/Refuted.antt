@@ -112,12 +112,12 @@ module _ (s : Scene) (m : Machine) where
   -- a run answered 10, and no fault stands
   pub fault_lost : (z : Line Machine) → Claimed s m (answering not_offered (append 20 ∷ run 1 ∷ [])) z none → ⊥
   unfolding met_end met faulted first standing_fault
-  fault_lost z d = let e : ◌≡◌ {A = Option Cause} none (some NotOffered) = d.fault_stands_lem in let n : ◌≡◌ {A = ℕ} 0 1 = cc in omega arith
+  fault_lost z d = let e : ◌≡◌ {A = Option Cause} none (some NotOffered) = d.fault_stands in let n : ◌≡◌ {A = ℕ} 0 1 = cc in omega arith
 
   -- no run answered one, and a fault stands
   pub fault_from_nowhere : (z : Line Machine) (c : Cause) → Claimed s m [] z (some c) → ⊥
   unfolding standing_fault
-  fault_from_nowhere z c d = let e : some c ≡ none = d.fault_stands_lem in let n : ◌≡◌ {A = ℕ} 0 1 = cc in omega arith
+  fault_from_nowhere z c d = let e : some c ≡ none = d.fault_stands in let n : ◌≡◌ {A = ℕ} 0 1 = cc in omega arith
 
 -- a fill was counted, and the screen is as before: one pixel, colour 5
 pub unpainted : (cursor : List ℕ) (f : Option Cause) (z : Line Machine) → z.machine.screen ≡ 0 ∷ []

@@ -15,7 +15,7 @@ use Rattle.execution.specs.declared.Cause.TheVariants.{NotOffered, BadOperand, T
 use Rattle.execution.specs.declared.End.{End}
 use Rattle.execution.specs.declared.End.TheVariants.{Drained, Waiting, Fault}
 use Rattle.execution.specs.Straight.{cause_number, Turn, ends, exec, Line, beyond, more, next, steps, straight, whole, ending}
-use Rattle.execution.specs.Claim.{Op, append, run, Answer, spent, standing, ended, appended, Event, taken, counted, met_end, met, faulted, first, fed, count_all, standing_fault, ops_of_lem}
+use Rattle.execution.specs.Claim.{Op, append, run, Answer, spent, standing, ended, appended, Event, taken, counted, met_end, met, faulted, first, fed, count_all, standing_fault, ops_in}
 use Rattle.execution.specs.Claim.{verdict, Moves, MovesOn, start, line_after, says, Demand3}
 use Rattle.execution.specs.Turns.{LineRun, one_more, runs}
 use Rattle.execution.specs.Queue.{Queue, Acted, fresh, offer, try, act, play}
@@ -69,7 +69,7 @@ module _ {S : Type 0} (turn : S → List ℕ → Turn S) where
 
 -- the operations of a list of events
 
-pub play_ops : {S : Type 0} (cap : ℕ) (turn : S → List ℕ → Turn S) (os : List Op) (q : Queue S) → ops_of_lem (play cap turn os q).events ≡ os
+pub play_ops : {S : Type 0} (cap : ℕ) (turn : S → List ℕ → Turn S) (os : List Op) (q : Queue S) → ops_in (play cap turn os q).events ≡ os
 unfolding play
 play_ops cap turn [] q = refl
 play_ops cap turn (o ∷ os) q = ap {B = List Op} (λ l. o ∷ l) (play_ops cap turn os (act cap turn o q).queue)
@@ -253,7 +253,7 @@ module _ {S : Type 0} {cap : ℕ} {turn : S → List ℕ → Turn S} (laws : Law
   claim h es q i j = record {
     executes = λ p r e. judged_at p r (judged_split p [] es r j e);
     same = sym (goes_straight turn i.goes);
-    fault_stands_lem = i.same_fault;
+    fault_stands = i.same_fault;
     fault_ends = i.fault_there;
     fault_number = λ c e. proper c q.line (i.fault_there c e);
     answers = λ p r e k. (judged_split p [] es (e ∷ r) j k).1;
@@ -288,14 +288,14 @@ module _ {S : Type 0} (cap : ℕ) (turn : S → List ℕ → Turn S) (s₀ : S) 
   AllFair : List Event → Type 0
   AllFair es = (p r : List Event) (e : Event) → es ≡ p ++ e ∷ r → e.reply ≡ says cap turn (line_after turn s₀ p) (standing_fault p) e.op
 
-  same_answers : (p r s : List Event) → AllFair (p ++ r) → AllFair (p ++ s) → ops_of_lem r ≡ ops_of_lem s → r ≡ s
+  same_answers : (p r s : List Event) → AllFair (p ++ r) → AllFair (p ++ s) → ops_in r ≡ ops_in s → r ≡ s
   unfolding AllFair
   same_answers p [] [] f g q = refl
   same_answers p [] (d ∷ s) f g q = cc
   same_answers p (e ∷ r) [] f g q = cc
   same_answers p (e ∷ r) (d ∷ s) f g q =
       let o : e.op ≡ d.op = cc in
-      let rest : ops_of_lem r ≡ ops_of_lem s = cc in
+      let rest : ops_in r ≡ ops_in s = cc in
       let y : e.reply ≡ d.reply = f p r e refl ∙ ap (says cap turn (line_after turn s₀ p) (standing_fault p)) o ∙ sym (g p s d refl) in
       let same : e ≡ d = λ i. record { op = o i; reply = y i } in
       let f' : AllFair ((p ++ just e) ++ r) = rw append_assoc f in
@@ -303,13 +303,13 @@ module _ {S : Type 0} (cap : ℕ) (turn : S → List ℕ → Turn S) (s₀ : S) 
       λ i. same i ∷ same_answers (p ++ just e) r s f' g' rest i
 
   pub demand3_unique : {es ds : List Event} {a b : Line S} {f g : Option Cause} → Demand3 cap turn s₀ es a f → Demand3 cap turn s₀ ds b g
-      → ops_of_lem es ≡ ops_of_lem ds → (es ≡ ds) × (a ≡ b) × (f ≡ g)
+      → ops_in es ≡ ops_in ds → (es ≡ ds) × (a ≡ b) × (f ≡ g)
   unfolding AllFair
   demand3_unique {es} {ds} x y q =
       let same = same_answers [] es ds x.answers y.answers q in (
         same,
         x.same ∙ ap (line_after turn s₀) same ∙ sym y.same,
-        x.fault_stands_lem ∙ ap standing_fault same ∙ sym y.fault_stands_lem,
+        x.fault_stands ∙ ap standing_fault same ∙ sym y.fault_stands,
       )
 
 -- A fault stands exactly when a run of the list answered it.
@@ -335,7 +335,7 @@ standing_fault_answered (e ∷ es) c h = go (faulted e.reply) refl (λ k. standi
 pub answered_standing_fault : {S : Type 0} {cap : ℕ} {turn : S → List ℕ → Turn S} {s₀ : S} {es : List Event} {z : Line S} {f : Option Cause}
     → Demand3 cap turn s₀ es z f → (c : Cause) → Answered es c → f ≡ some c
 unfolding standing_fault first says faulted met
-answered_standing_fault {cap} {turn} {s₀} {es} {z} {f} d c a = d.fault_stands_lem ∙ ap standing_fault a.there ∙ standing_fault_append a.before (a.event ∷ a.rest) ∙ go (standing_fault a.before) refl
+answered_standing_fault {cap} {turn} {s₀} {es} {z} {f} d c a = d.fault_stands ∙ ap standing_fault a.there ∙ standing_fault_append a.before (a.event ∷ a.rest) ∙ go (standing_fault a.before) refl
   where
     refuses : (o : Op) (k : Cause) → faulted (says cap turn (line_after turn s₀ a.before) (some k) o) ≡ none
     refuses (append x) k = refl

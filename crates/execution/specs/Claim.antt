@@ -73,8 +73,8 @@ first (some c) d = some c
 -- Of a list of operations with their answers.
 
 -- The operations alone.
-abbrev pub ops_of_lem : List Event → List Op
-ops_of_lem es = map (λ (e : Event). e.op) es
+abbrev pub ops_in : List Event → List Op
+ops_in es = map (λ (e : Event). e.op) es
 
 -- "Straight execution is fed the words that the list's appends took, in order."
 unfoldable pub fed : List Event → List ℕ
@@ -136,7 +136,7 @@ module _ {S : Type 0} (cap : ℕ) (turn : S → List ℕ → Turn S) where
     -- "all P screen words, all cursor words, the defined cursor and the fence are as those steps leave them"; "The words left are those waiting"
     pub same : z ≡ line_after turn s₀ es
     -- "A fault stands exactly when a run of the list answered 10, 11 or 12, and has that number"
-    pub fault_stands_lem : f ≡ standing_fault es
+    pub fault_stands : f ≡ standing_fault es
     pub fault_number : (c : Cause) → f ≡ some c → cause_number c ≤ 12
     -- and straight execution still ends there, with that answer
     pub fault_ends : (c : Cause) → f ≡ some c → next turn z ≡ ends (Fault c)

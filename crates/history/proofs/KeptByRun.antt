@@ -437,7 +437,7 @@ pub data Refusal : ℕ → Type 0 where
   lent_length_lem : Refusal 20
   disabled : Refusal 21
   not_configured_lem : Refusal 22
-  fault_stands_lem : Refusal 23
+  fault_stands : Refusal 23
   too_large_lem : Refusal 24
 
 module _ (d : Device) (l : Lent) where
@@ -460,7 +460,7 @@ module _ (d : Device) (l : Lent) where
   unfolding run_by
   by_condition P budget Idle e no_run goes = no_run 22 not_configured_lem
   by_condition P budget (Running g) e no_run goes = goes g e
-  by_condition P budget (Faulted c) e no_run goes = no_run 23 fault_stands_lem
+  by_condition P budget (Faulted c) e no_run goes = no_run 23 fault_stands
 
   -- what holds of every refusal, and of every run that goes on, holds of every run
   pub by_run : (P : RunOutcome → Type 0) (budget : ℕ)

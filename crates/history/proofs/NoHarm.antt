@@ -47,7 +47,7 @@ use Rattle.register_write.proofs.Kept.{part_kept, sizes_kept, marks_kept, busy_k
 use Rattle.register_read.proofs.Readings.{value_kept}
 use Rattle.register_write.specs.Rules.{Why, no_register, read_only, bad_value, wrong_length, ring_refused, is_taken}
 use Rattle.register_write.proofs.Refusals.{why, ill_formed_write}
-use Rattle.history.proofs.KeptByRun.{NotStanding, Refusal, lent_length_lem, disabled, not_configured_lem, fault_stands_lem, too_large_lem, Open, ran_in, by_run}
+use Rattle.history.proofs.KeptByRun.{NotStanding, Refusal, lent_length_lem, disabled, not_configured_lem, fault_stands, too_large_lem, Open, ran_in, by_run}
 use Rattle.history.proofs.KeptByRun.{left_sound, left_stays, open_sound, refused_run_lem, run_count, run_nothing, run_filled, run_unpainted, run_tells}
 use Rattle.history.specs.Calls.{World, Call, make, write, read, run, append, submit, picture, offscreen, fence, passed, lend, perform, perform_all}
 use Rattle.history.specs.Harm.{row, among, SameBut, InMode, InReach, cursor_filled, Posts}
@@ -101,7 +101,7 @@ refusal_row : (budget a : ℕ) → Refusal a → among a (row (run budget)) ≡ 
 refusal_row budget a lent_length_lem = refl
 refusal_row budget a disabled = refl
 refusal_row budget a not_configured_lem = refl
-refusal_row budget a fault_stands_lem = refl
+refusal_row budget a fault_stands = refl
 refusal_row budget a too_large_lem = refl
 
 run_answers : (budget : ℕ) (w : World) → among (perform (run budget) w).answer (row (run budget)) ≡ true

@@ -381,7 +381,7 @@ module _ (ring : List ℕ) (c : Command) where
       (λ u h. on-41 (u, (not_taken (carried_in ring) c.head).0 h))
       (λ u h l. on-20 (u, is.0 h, (fails _ lent).0 l))
       (λ u h l f. on-40 (u, is.0 h, lent.0 l, f))
-      (λ f. taken (f.usable, is.0 f.is_command_lem, lent.0 f.lent, f.room))
+      (λ f. taken (f.usable, is.0 f.is_a_command, lent.0 f.lent, f.room))
 
   abbrev SubmitRule : ℕ → Type 0
   SubmitRule a =

@@ -104,7 +104,7 @@ append_all_waits (x ∷ w) ring lo hi stop low high last u l =
 -- None of the refusals applies: "33 if the ring words are missing or unusable ..; 41 ..; 20 ..; 40 ..; in that order".
 pub record Fits (ring : List ℕ) (c : Command) : Type 0 where
   pub usable : Usable ring
-  pub is_command_lem : is_command (carried_in ring) c.head ≡ true
+  pub is_a_command : is_command (carried_in ring) c.head ≡ true
   pub lent : lent_good c ≡ true
   pub room : length (command_words c) ≤ free_words ring
 
@@ -126,7 +126,7 @@ by_tests ring c P on-33 on-41 on-20 on-40 taken =
     by_cond P (lent_good c)
     (λ l.
     by_cond P (leb (length (command_words c)) (free_words ring))
-    (λ f. taken (record { usable = good; is_command_lem = h; lent = l; room = leb-true _ _ f }))
+    (λ f. taken (record { usable = good; is_a_command = h; lent = l; room = leb-true _ _ f }))
     (λ f. on-40 good h l (leb-false _ _ f)))
     (λ l. on-20 good h l))
     (λ h. on-41 good h))
@@ -159,7 +159,7 @@ write_refused ring c =
 -- where none of the refusals applies it is taken
 pub fits_taken : (ring : List ℕ) (c : Command) → Fits ring c → write_of ring c ≡ written Taken (append_all ring (command_words c))
 unfolding write_of
-fits_taken ring c f = rw (when_usable ring f.usable, f.is_command_lem, f.lent, le-leb _ _ f.room)
+fits_taken ring c f = rw (when_usable ring f.usable, f.is_a_command, f.lent, le-leb _ _ f.room)
 
 -- and only so
 pub taken_fits : (ring : List ℕ) (c : Command) → (write_of ring c).answer ≡ 0 → Fits ring c

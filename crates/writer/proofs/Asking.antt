@@ -23,7 +23,7 @@ use Rattle.command.proofs.Begun.{length-begun, word_begun, kind_begun}
 use Rattle.writer.specs.declared.Asked.{Asked}
 use Rattle.writer.specs.Writing.{is_command, pixels_asked, bytes_asked}
 use Rattle.writer.specs.Laying.{asked}
-use Rattle.writer.proofs.Taking.{Passes, passes, is_command_lem, Begins, taken_turn, fault_turn}
+use Rattle.writer.proofs.Taking.{Passes, passes, is_a_command, Begins, taken_turn, fault_turn}
 
 -- what a command asks for, by its numbers
 abbrev pub asks : ℕ → ℕ → ℕ → Asked
@@ -51,7 +51,7 @@ module _ (cap : ℕ) (head : List ℕ) where
   pub asked_some : Passes cap head
       → asked cap head ≡ asks (size_by (kind_in head) head) (pixels_asked (data_of (kind_in head)) head) (bytes_asked (data_of (kind_in head)) head)
   unfolding asked
-  asked_some p = rw (is_command_lem cap head p)
+  asked_some p = rw (is_a_command cap head p)
 
   -- the words tell which: where they are none, nothing is asked for
   pub no_words : (asked cap head).words ≡ 0 → asked cap head ≡ asks 0 0 0

@@ -112,5 +112,5 @@ module _ (ring : List ℕ) (c : Command) (good : usable ring ≡ true) (a : Aske
       write_taken room lo hi next low high at =
           let n = all_words in
           let u = usable_when ring good in
-          sym (fits_taken ring c (record { usable = u; is_command_lem = taken; lent = lent; room = omega arith })
+          sym (fits_taken ring c (record { usable = u; is_a_command = taken; lent = lent; room = omega arith })
           ∙ ap (written Taken) (all_laid (command_words c) ring lo hi next low high at u (omega arith)))

@@ -162,7 +162,7 @@ pub used_again : (from : Ring) (ring : List ℕ) (to : Ring) (later rest : List 
     → (write_of later c).answer ≡ 0
 used_again from ring to later rest f c is lent h =
     ap (λ (w : Written). w.answer)
-    (fits_taken later c (record { usable = f.usable; is_command_lem = rw f.carries is; lent = lent; room = omega (arith, f.free) }))
+    (fits_taken later c (record { usable = f.usable; is_a_command = rw f.carries is; lent = lent; room = omega (arith, f.free) }))
 
 -- ---- an empty ring
 
@@ -173,7 +173,7 @@ empty_takes ring u e c is lent =
     ap (λ (w : Written). w.answer)
     (fits_taken ring c (record {
       usable = u;
-      is_command_lem = is;
+      is_a_command = is;
       lent = lent;
       room = omega (arith, size_words c (carried_in ring) is lent, (passes (carried_in ring) c.head is).fits, empty_free ring e);
     }))

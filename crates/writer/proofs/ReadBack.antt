@@ -35,7 +35,7 @@ data_bytes c small i h = rw append-nil at (sym (byte_at c.bytes small [] i h))
 
 -- A command is read back from its words, whatever words stand behind them.
 pub read_back_words : (c : Command) (cap : ℕ) → Proper cap c → (v : List ℕ) → read_in (command_words c ++ v) ≡ c
-read_back_words c cap p v = read_all c cap p.is_command_lem p.lent v p.in_bytes
+read_back_words c cap p v = read_all c cap p.is_a_command p.lent v p.in_bytes
 
 -- "two different commands never give the same words": nor does one begin as the other does, whatever words stand behind them.
 pub distinct : (c e : Command) (cap cap' : ℕ) → Proper cap c → Proper cap' e → (u v : List ℕ) → command_words c ++ u ≡ command_words e ++ v → c ≡ e
@@ -66,7 +66,7 @@ module _ (ring : List ℕ) (c : Command) (taken : (write_of ring c).answer ≡ 0
       → read_in (waiting later g.min g.max g.stop (next_of later / 4)) ≡ c
   read_back_lem small g later w =
       ap read_in (begins g later w)
-      ∙ read_back_words c (carried_in ring) (record { is_command_lem = fits.is_command_lem; lent = fits.lent; in_bytes = small }) _
+      ∙ read_back_words c (carried_in ring) (record { is_a_command = fits.is_a_command; lent = fits.lent; in_bytes = small }) _
 
   -- So the device's own turn, on any machine, executes that command with its words, all of them and no more.
   pub executed : (g : Ring) (later : List ℕ) → Waits ring c g later → (s : Scene) (m : Machine)
@@ -74,7 +74,7 @@ module _ (ring : List ℕ) (c : Command) (taken : (write_of ring c).answer ≡ 0
       ≡ exec (length (command_words c)) (done s ((entry (kind_in c.head)).action c.head) (command_words c) m)
   executed g later w s m =
       rw (turn_kept s g (next_of later) w.next, begins g later w, w.min, w.max)
-      (turn_words c (carried_in ring) fits.is_command_lem fits.lent _ s m)
+      (turn_words c (carried_in ring) fits.is_a_command fits.lent _ s m)
 
 -- ---- words appended one by one
 
@@ -118,7 +118,7 @@ module _ (ring : List ℕ) (c : Command) (taken : (write_of ring c).answer ≡ 0
         λ empty.
             let n = length-append c.head (c.pixels ++ data_words c.bytes) in
             let carries : carried_in left ≡ carried_in ring = rw (bounds.0, bounds.1) in
-            omega (arith, fewer, empty_free left empty, carries, free_most ring, n, (head_few (carried_in ring) c.head fit.is_command_lem).0),
+            omega (arith, fewer, empty_free left empty, carries, free_most ring, n, (head_few (carried_in ring) c.head fit.is_a_command).0),
       )
 
   -- What waited before waits, and behind it the command.

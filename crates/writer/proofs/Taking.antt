@@ -54,9 +54,9 @@ module _ (cap : ℕ) (head : List ℕ) where
       let d = both _ _ c.1 in
       record { offered = a.0; number = eqb-true _ _ b.0; head_good = c.0; fits = leb-true _ _ d.0; good = d.1 }
 
-  pub is_command_lem : Passes cap head → is_command cap head ≡ true
+  pub is_a_command : Passes cap head → is_command cap head ≡ true
   unfolding is_command
-  is_command_lem p = rw (p.offered, eq-eqb _ _ p.number, p.head_good, le-leb _ _ p.fits, p.good)
+  is_a_command p = rw (p.offered, eq-eqb _ _ p.number, p.head_good, le-leb _ _ p.fits, p.good)
 
 -- ---- the words of a head
 
@@ -149,7 +149,7 @@ module _ {S : Type 0} (known_of : S → Known) (does : Action → List ℕ → S
       cases (leb (size_by (kind_in head) head) cap)
       (λ l. let fits : size_by (kind_in head) head ≤ cap = leb-true _ _ l in
       cases ((entry (kind_in head)).good tt head)
-      (λ o. not_both (is_command cap head) (is_command_lem cap head (record { offered = on; number = number; head_good = g; fits = fits; good = o })) f)
+      (λ o. not_both (is_command cap head) (is_a_command cap head (record { offered = on; number = number; head_good = g; fits = fits; good = o })) f)
       (λ o. inl (by _ (bad offers some good (omega (arith, size)) (omega (arith, size, begins.all fits)) (rw k (here.good tt ∙ o))))))
       (λ l. let over : cap < size_by (kind_in head) head = leb-false _ _ l in inr (by _ (long offers some good (omega (arith, size))))))
       (λ g. inl (by _ (bad_head offers some (rw k (here.head_good ∙ g)))))

@@ -64,7 +64,7 @@ pub record Waits (ring : List ℕ) (c : Command) (g : Ring) (later : List ℕ) :
 
 -- A command of a ring that carries cap words, its pixels and its data as many as its head says, "data being bytes".
 pub record Proper (cap : ℕ) (c : Command) : Type 0 where
-  pub is_command_lem : is_command cap c.head ≡ true
+  pub is_a_command : is_command cap c.head ≡ true
   pub lent : lent_good c ≡ true
   pub in_bytes : InBytes c
 
