@@ -69,6 +69,7 @@ pub enum Finding {
 
 // The kind of command that a number names.
 // Rules out: command 20 or 21 offered; 4294967295 taken for one that is offered.
+#[tactic(auto, unfolding(crate::specs::Commands::entry, crate::specs::Commands::kind_of))]
 pub fn kind_of(number: u32) -> Kind
     ensures { result ≡ kind_of number }
 {
@@ -88,6 +89,7 @@ pub fn kind_of(number: u32) -> Kind
 
 // The words of a command's head, its number included; a command of fixed length is all head.
 // Rules out: a cursor's head of five words; a fence of one.
+#[tactic(auto, unfolding(crate::specs::Commands::entry))]
 pub fn head_words(kind: Kind) -> usize
     ensures { result ≡ (entry kind).head }
 {
