@@ -1,5 +1,5 @@
-// The device for C and Rust. Its state is 64 words that the host keeps and lends for each call, as it lends the memories; any words and
-// any lengths may be lent. A length other than 64 is answer 20, and words that hold no device are refused.
+// The device for hosts in Rust and, by `svga_c`, in C. Its state is 64 words that the host keeps and lends for each call, as it lends the
+// memories; any words and any lengths may be lent. A length other than 64 is answer 20, and words that hold no device are refused.
 #![tactic(auto)]
 
 ghost use Rattle.std.specs.Prelude.{◌≡◌, length};
@@ -34,8 +34,7 @@ fn pack(answer: u32, value: u32) -> u64
 
 // A device for a ring memory of memory bytes and pixels pixels.
 // Rules out: words written where M or P is refused; a device of 63 words.
-#[unsafe(no_mangle)]
-pub extern "C" fn svga_make(device: &mut [u32], memory: u32, pixels: u32) -> u32
+pub fn svga_make(device: &mut [u32], memory: u32, pixels: u32) -> u32
     ensures { call result device.new ≡ svga_make device.old memory pixels }
 {
     if device.len() != 64 {
@@ -55,8 +54,7 @@ pub extern "C" fn svga_make(device: &mut [u32], memory: u32, pixels: u32) -> u32
 
 // A register write.
 // Rules out: a refused write that changes a word; 20 for a ring that CONFIG_DONE 1 does not look at.
-#[unsafe(no_mangle)]
-pub extern "C" fn svga_write(device: &mut [u32], ring: &[u32], index: u32, value: u32) -> u32
+pub fn svga_write(device: &mut [u32], ring: &[u32], index: u32, value: u32) -> u32
     ensures { call result device.new ≡ svga_write device.old ring.now index value }
 {
     if device.len() != 64 {
@@ -92,8 +90,7 @@ fn read_value(d: Device, index: u32) -> u64
 
 // A register read: the answer in the high half, the value in the low.
 // Rules out: a value for words that hold no device; answer and value exchanged.
-#[unsafe(no_mangle)]
-pub extern "C" fn svga_read(device: &[u32], index: u32) -> u64
+pub fn svga_read(device: &[u32], index: u32) -> u64
     ensures { result ≡ svga_read device.now index }
 {
     if device.len() != 64 {
@@ -112,8 +109,7 @@ pub extern "C" fn svga_read(device: &[u32], index: u32) -> u64
 
 // A run: the answer in the high half, the commands consumed in the low.
 // Rules out: a run whose device is not written back; a count in the high half.
-#[unsafe(no_mangle)]
-pub extern "C" fn svga_run(
+pub fn svga_run(
     device: &mut [u32],
     ring: &mut [u32],
     framebuffer: &[u32],
@@ -143,13 +139,7 @@ pub extern "C" fn svga_run(
 
 // A finished picture.
 // Rules out: an output written by a refused call; 20 for words that hold no device.
-#[unsafe(no_mangle)]
-pub extern "C" fn svga_picture(
-    device: &[u32],
-    screen: &[u32],
-    cursor: &[u32],
-    output: &mut [u32],
-) -> u32
+pub fn svga_picture(device: &[u32], screen: &[u32], cursor: &[u32], output: &mut [u32]) -> u32
     ensures { record { answer = result; output = output.new }
         ≡ svga_picture device.now screen.now cursor.now output.old }
 {
@@ -193,8 +183,7 @@ fn put_offscreen(edges: &mut [u32], d: Device) -> u32
 
 // The usable offscreen rectangle: left, top, right, bottom.
 // Rules out: width and height in place of right and bottom; four zeros and answer 0 for words that hold no device.
-#[unsafe(no_mangle)]
-pub extern "C" fn svga_offscreen(device: &[u32], edges: &mut [u32]) -> u32
+pub fn svga_offscreen(device: &[u32], edges: &mut [u32]) -> u32
     ensures { edges_call result edges.new ≡ svga_offscreen device.now edges.old }
 {
     if device.len() != 64 {
@@ -222,8 +211,7 @@ fn fence_value(d: Device) -> u64
 
 // The last fence executed, in the low half.
 // Rules out: a fence of words that hold no device; 0 always.
-#[unsafe(no_mangle)]
-pub extern "C" fn svga_fence(device: &[u32]) -> u64
+pub fn svga_fence(device: &[u32]) -> u64
     ensures { result ≡ svga_fence device.now }
 {
     if device.len() != 64 {
@@ -256,8 +244,7 @@ fn passed_value(d: Device, fence: u32) -> u64
 
 // Whether a fence has passed: 1 or 0, in the low half.
 // Rules out: fence 2 passed when the last is 1; a refusal that reads as passed.
-#[unsafe(no_mangle)]
-pub extern "C" fn svga_fence_passed(device: &[u32], fence: u32) -> u64
+pub fn svga_fence_passed(device: &[u32], fence: u32) -> u64
     ensures { result ≡ svga_passed device.now fence }
 {
     if device.len() != 64 {
@@ -276,8 +263,7 @@ pub extern "C" fn svga_fence_passed(device: &[u32], fence: u32) -> u64
 
 // What a guest does: one word more at NEXT_CMD. 0 taken, 1 refused.
 // Rules out: a word taken by a full ring; NEXT_CMD moved by a refused append.
-#[unsafe(no_mangle)]
-pub extern "C" fn svga_append(ring: &mut [u32], word: u32) -> u32
+pub fn svga_append(ring: &mut [u32], word: u32) -> u32
     ensures { record { answer = result; ring = ring.new } ≡ append_of ring.old word }
 {
     let answer = ring::append(ring, word);
@@ -286,13 +272,7 @@ pub extern "C" fn svga_append(ring: &mut [u32], word: u32) -> u32
 
 // A whole command, appended as a guest does, or nothing: its number and arguments, its pixels, its data.
 // Rules out: a part of a command appended; NEXT_CMD moved by a command that is refused; pixels taken for data.
-#[unsafe(no_mangle)]
-pub extern "C" fn svga_append_command(
-    ring: &mut [u32],
-    head: &[u32],
-    pixels: &[u32],
-    bytes: &[u8],
-) -> u32
+pub fn svga_append_command(ring: &mut [u32], head: &[u32], pixels: &[u32], bytes: &[u8]) -> u32
     ensures { record { answer = result; ring = ring.new }
         ≡ write_of ring.old (command head.now pixels.now bytes.now) }
 {
