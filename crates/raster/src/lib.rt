@@ -84,6 +84,7 @@ fn store_span(row: &mut [u32], at: usize, colour: u32)
 }
 
 // The rows of a fill that keeps nothing, by numbers: a Rect would be stored for the call.
+#[tactic(auto, using(crate::proofs::Stored::row_begun))]
 fn store_rows(
     screen: &mut [u32],
     width: u32,
@@ -122,6 +123,7 @@ fn store_pixel(screen: &mut [u32], width: u32, x: u32, y: u32, colour: u32)
 }
 
 // The rows of a fill that keeps something of the old pixels.
+#[tactic(auto, using(geometry::proofs::Rows::row_room))]
 fn reduce_rows(screen: &mut [u32], width: u32, area: Rect, keep: u32, flip: u32)
     requires { Inside width area.x area.y area.w area.h (length screen.old) }
     ensures { screen.new ≡ reduced_cut width area keep flip screen.old }
@@ -179,6 +181,7 @@ fn fill_cut(screen: &mut [u32], width: u32, area: Rect, colour: u32, rop: u32)
 
 // Each pixel of the rectangle in the rows gets the raster operation of the colour and what stood there. Any rectangle will do.
 // Rules out: a fill one pixel too wide; a wide bar that vanishes because x + w wrapped.
+#[tactic(auto, using(crate::proofs::Cuts::fill_refused, crate::proofs::Cuts::fill_nothing, crate::proofs::Cuts::fill_cut))]
 pub fn fill(screen: &mut [u32], width: u32, rows: u32, area: Rect, colour: u32, rop: u32)
     ensures { screen.new ≡ filled width rows area colour rop screen.old }
 {
@@ -207,6 +210,7 @@ fn put_row(row: &mut [u32], src: &[u32])
     }
 }
 
+#[tactic(auto, using(geometry::proofs::Rows::row_room))]
 fn update_cut(framebuffer: &[u32], screen: &mut [u32], width: u32, area: Rect)
     requires inside { Inside width area.x area.y area.w area.h (length screen.old) }
     requires inside_2 { Inside width area.x area.y area.w area.h (length framebuffer.now) }
@@ -228,6 +232,7 @@ fn update_cut(framebuffer: &[u32], screen: &mut [u32], width: u32, area: Rect)
 
 // The framebuffer's pixels of the rectangle, in the rows, come to the screen.
 // Rules out: pixels beyond the rows brought along; a rectangle dropped whole because it reaches one pixel outside.
+#[tactic(auto, using(crate::proofs::Cuts::update_refused, crate::proofs::Cuts::update_unlent, crate::proofs::Cuts::update_nothing, crate::proofs::Cuts::update_cut))]
 pub fn update(framebuffer: &[u32], screen: &mut [u32], width: u32, rows: u32, area: Rect)
     ensures { screen.new ≡ updated width rows area framebuffer.now screen.old }
 {
@@ -432,6 +437,7 @@ fn next_row(back: bool, n: usize, done: usize) -> usize
 }
 
 // The rows of a plain copy, in the order of merge_cut.
+#[tactic(auto, using(geometry::proofs::Loops::copy_row))]
 fn move_cut(screen: &mut [u32], width: u32, sx: u32, sy: u32, area: Rect)
     requires inside { Inside width area.x area.y area.w area.h (length screen.old) }
     requires inside_2 { Inside width sx sy area.w area.h (length screen.old) }
@@ -457,6 +463,7 @@ fn move_cut(screen: &mut [u32], width: u32, sx: u32, sy: u32, area: Rect)
 }
 
 // Rows from the top, or from the bottom where the destination comes after the source: no pixel is painted before it is read.
+#[tactic(auto, using(geometry::proofs::Loops::copy_row))]
 fn merge_cut(screen: &mut [u32], width: u32, sx: u32, sy: u32, area: Rect, rop: u32)
     requires inside { Inside width area.x area.y area.w area.h (length screen.old) }
     requires inside_2 { Inside width sx sy area.w area.h (length screen.old) }
@@ -497,6 +504,7 @@ fn copy_cut(screen: &mut [u32], width: u32, sx: u32, sy: u32, area: Rect, rop: u
 // The pixels at (sx, sy) move to the rectangle by the raster operation: offset (i, j) exactly if its source and its destination
 // lie in the rows. Sources and destinations may overlap.
 // Rules out: a copy that cuts its destination and forgets the source; overlapping rows read after they were painted.
+#[tactic(auto, using(crate::proofs::Cuts::copy_refused, crate::proofs::Cuts::copy_nothing, crate::proofs::Cuts::copy_cut))]
 pub fn copy(screen: &mut [u32], width: u32, rows: u32, sx: u32, sy: u32, area: Rect, rop: u32)
     ensures { screen.new ≡ copied width rows sx sy area rop screen.old }
 {

@@ -1,0 +1,12 @@
+-- `pixels_back` meets its contract. The invariant: the pixels done so far are painted.
+use mathlib.Core.Bool.{true}
+use Prim.Native.Nat.{◌-◌}
+use Rattle.geometry.proofs.Loops.{PiecesDone}
+use Rattle.pixel.specs.Masks.{merge_pixel}
+use Rattle.raster.proofs.pixels_back.Given as goal
+
+abbrev pub invariant-loop-done : goal.invariant-loop-done
+invariant-loop-done l = PiecesDone true l.from l.to l.n (merge_pixel l.m) l.initial.screen l.done l.screen
+
+abbrev pub decreases-loop-done : goal.decreases-loop-done
+decreases-loop-done l = l.n - l.done

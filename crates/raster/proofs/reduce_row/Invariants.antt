@@ -1,0 +1,12 @@
+-- `reduce_row` meets its contract: the loop stores each pixel's new value from the front.
+use Prim.Native.Nat.{◌-◌}
+use lib.ListN.{length, get_or}
+use Rattle.pixel.specs.Masks.{reduce_pixel}
+use Rattle.geometry.proofs.Tabulate.{Front}
+use Rattle.raster.proofs.reduce_row.Given as goal
+
+abbrev pub invariant-loop-i : goal.invariant-loop-i
+invariant-loop-i l = Front (λ k. reduce_pixel l.keep l.flip (get_or l.initial.row k 0)) l.initial.row l.row l.i
+
+abbrev pub decreases-loop-i : goal.decreases-loop-i
+decreases-loop-i l = length l.initial.row - l.i
