@@ -15,6 +15,7 @@ use pixel::Masks;
 // The largest width of a mode, and so of a row.
 pub const MAX_WIDTH: u32 = 2560;
 
+#[tactic(auto, unfolding(crate::specs::Painters::rows_fit))]
 fn rows_fit(width: u32, rows: u32, len: usize) -> bool
     ensures { result ≡ rows_fit width rows len }
 {
