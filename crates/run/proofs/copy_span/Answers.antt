@@ -9,5 +9,5 @@ loop-j-preserved c =
     let a = c.args in (
       omega arith,
       ap (λ (l : List ℕ). set l (a.to + at.j) (get_or a.ring.now (a.from + at.j) 0)) at.invariant.1
-      ∙ copy_more a.image.now a.to a.ring.now a.from at.j (omega arith) (omega arith),
+          ∙ copy_more a.image.now a.to a.ring.now a.from at.j (omega arith) (omega arith),
     )
