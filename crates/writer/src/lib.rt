@@ -241,6 +241,7 @@ fn word_from(bytes: &[u8], k: usize) -> u32
 }
 
 // The place behind place p.
+#[tactic(auto, unfolding(ring::specs::Waiting::after))]
 fn after(lo: usize, hi: usize, p: usize) -> usize
     requires { p < hi }
     ensures { result ≡ after lo hi p }
