@@ -65,6 +65,7 @@ fn refused(d: Device, answer: RunAnswer) -> Ran
     }
 }
 
+#[tactic(auto, unfolding(crate::specs::Run::lent_good))]
 fn lent_good(d: Device, ring: &[u32], framebuffer: &[u32], screen: &[u32], cursor: &[u32]) -> bool
     ensures { result ≡ lent_good d (lent ring.now framebuffer.now screen.now cursor.now) }
 {
@@ -82,6 +83,7 @@ fn lent_good(d: Device, ring: &[u32], framebuffer: &[u32], screen: &[u32], curso
     cursor.len() == IMAGE_WORDS
 }
 
+#[tactic(auto, unfolding(crate::specs::Run::condition_after))]
 fn condition_at(end: End, ring: Ring) -> Condition
     ensures { result ≡ condition_after (ended end) ring }
 {
@@ -93,6 +95,7 @@ fn condition_at(end: End, ring: Ring) -> Condition
 }
 
 // A fault stands, or the ring is remembered with STOP as the run left it.
+#[tactic(auto, unfolding(crate::specs::Run::condition_after))]
 fn condition_after(answer: RunEnd, ring: Ring) -> Condition
     ensures { result ≡ condition_after (answer_of answer) ring }
 {
@@ -102,6 +105,7 @@ fn condition_after(answer: RunEnd, ring: Ring) -> Condition
     }
 }
 
+#[tactic(auto, unfolding(crate::specs::Run::busy_after))]
 fn busy_after(answer: RunEnd, busy: bool) -> bool
     ensures { result ≡ busy_after (answer_of answer) busy }
 {
@@ -161,6 +165,7 @@ fn run_ring(
 
 // Commands out of the ring, at most budget of them.
 // Rules out: a run that refuses everything; "drained, 0" to everything; 21 before 22; a fault that clears nothing of BUSY.
+#[tactic(auto, unfolding(crate::specs::Run::run_of))]
 pub fn run(
     d: Device,
     ring: &mut [u32],
@@ -200,6 +205,7 @@ pub fn run(
 
 // Whether a run with these lent memories is refused with neither 20, 21, 22 nor 24.
 // Rules out: a disabled device that is ready; a device whose mode is larger than the screen.
+#[tactic(auto, unfolding(crate::specs::Run::ready))]
 pub fn is_ready(
     d: Device,
     ring: &[u32],
