@@ -42,6 +42,7 @@ pub fn picture_number(answer: PictureAnswer) -> u32
 // ---- picture
 
 // The cursor that appears in a picture: shown, and its remembered id is that of the defined cursor.
+#[tactic(auto, unfolding(crate::specs::Picture::cursor_over))]
 fn cursor_over(d: Device) -> Overlay
     ensures { result ≡ cursor_over d (defined_of d) }
 {
@@ -67,6 +68,7 @@ fn cursor_over(d: Device) -> Overlay
     }
 }
 
+#[tactic(auto, unfolding(crate::specs::Picture::lengths_good))]
 fn lengths_good(pixels: usize, screen: usize, image: usize, output: usize) -> bool
     ensures { result ≡ lengths_good pixels screen image output }
 {
@@ -81,6 +83,7 @@ fn lengths_good(pixels: usize, screen: usize, image: usize, output: usize) -> bo
 
 // The mode's pixels in the output, with the cursor over them.
 // Rules out: the bare screen always; a cursor at the registers' X and Y of now; output beyond the mode changed.
+#[tactic(auto, unfolding(crate::specs::Picture::picture_of))]
 pub fn picture(d: Device, screen: &[u32], image: &[u32], output: &mut [u32]) -> PictureAnswer
     ensures { pictured result output.new ≡ picture_of d screen.now image.now output.old }
 {
