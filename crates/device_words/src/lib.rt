@@ -43,6 +43,7 @@ fn bit_of(b: bool) -> u32
     0
 }
 
+#[tactic(auto, unfolding(crate::specs::Words::defined_parts))]
 fn defined_words(defined: Defined) -> DefinedWords
     ensures { result ≡ defined_parts defined }
 {
@@ -63,6 +64,7 @@ fn defined_words(defined: Defined) -> DefinedWords
     }
 }
 
+#[tactic(auto, unfolding(crate::specs::Words::condition_parts))]
 fn condition_words(condition: Condition) -> ConditionWords
     ensures { result ≡ condition_parts condition }
 {
@@ -114,6 +116,7 @@ fn settings_of(d: Device) -> [u32; 64]
     w
 }
 
+#[tactic(auto, unfolding(crate::specs::Words::words_of))]
 fn words_of(d: Device) -> [u32; 64]
     ensures { result ≡ words_of d }
 {
@@ -142,6 +145,7 @@ fn words_of(d: Device) -> [u32; 64]
 
 // ---- from words to a device
 
+#[tactic(auto, unfolding(crate::specs::Words::defined_from))]
 fn defined_from(tag: u32, shape: Shape) -> Defined
     ensures { result ≡ defined_from tag shape }
 {
@@ -151,6 +155,7 @@ fn defined_from(tag: u32, shape: Shape) -> Defined
     Defined::Undefined
 }
 
+#[tactic(auto, unfolding(crate::specs::Words::condition_from))]
 fn condition_from(tag: u32, ring: Ring) -> Condition
     ensures { result ≡ condition_from tag ring }
 {
@@ -172,6 +177,7 @@ fn condition_from(tag: u32, ring: Ring) -> Condition
     Condition::Idle
 }
 
+#[tactic(auto, unfolding(crate::specs::Words::device_from))]
 fn device_from(w: &[u32]) -> Device
     requires { length w.now ≡ 64 }
     ensures { result ≡ device_from w.now }
@@ -251,6 +257,7 @@ fn are_same(a: &[u32], w: &[u32]) -> bool
 
 // The device that the lent words spell. Whether it is well-formed its callers test.
 // Rules out: a device in 63 words; a device where a spare word is not 0.
+#[tactic(auto, unfolding(crate::specs::Words::spelled_in))]
 pub fn spelled_in(w: &[u32]) -> Held
     ensures { result ≡ spelled_in w.now }
 {
@@ -279,6 +286,7 @@ fn put_words(w: &mut [u32], words: &[u32])
 
 // The device's words into the lent ones.
 // Rules out: spare words left as they were; a wrong length written to.
+#[tactic(auto, unfolding(crate::specs::Words::put_in))]
 pub fn put_in(w: &mut [u32], d: Device)
     ensures { w.new ≡ put_in w.old d }
 {

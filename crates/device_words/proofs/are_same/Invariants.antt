@@ -1,0 +1,10 @@
+-- The count is 0 exactly while the words looked at agree.
+use Rattle.std.proofs.Common.{◌≡◌, ◌-◌, ◌≤◌, eqb, take}
+use Rattle.device_words.specs.Words.{same}
+use Rattle.device_words.proofs.are_same.Given as goal
+
+abbrev pub invariant-loop-i : goal.invariant-loop-i
+invariant-loop-i l = (l.i ≤ 64) × (l.n ≤ l.i) × (eqb l.n 0 ≡ same (take l.i l.a) (take l.i l.w))
+
+abbrev pub decreases-loop-i : goal.decreases-loop-i
+decreases-loop-i l = 64 - l.i
