@@ -34,6 +34,7 @@ fn pack(answer: u32, value: u32) -> u64
 
 // A device for a ring memory of memory bytes and pixels pixels.
 // Rules out: words written where M or P is refused; a device of 63 words.
+#[tactic(auto, unfolding(crate::specs::Calls::svga_make))]
 pub fn svga_make(device: &mut [u32], memory: u32, pixels: u32) -> u32
     ensures { call result device.new ≡ svga_make device.old memory pixels }
 {
@@ -54,6 +55,7 @@ pub fn svga_make(device: &mut [u32], memory: u32, pixels: u32) -> u32
 
 // A register write.
 // Rules out: a refused write that changes a word; 20 for a ring that CONFIG_DONE 1 does not look at.
+#[tactic(auto, unfolding(crate::specs::Calls::svga_write))]
 pub fn svga_write(device: &mut [u32], ring: &[u32], index: u32, value: u32) -> u32
     ensures { call result device.new ≡ svga_write device.old ring.now index value }
 {
@@ -90,6 +92,7 @@ fn read_value(d: Device, index: u32) -> u64
 
 // A register read: the answer in the high half, the value in the low.
 // Rules out: a value for words that hold no device; answer and value exchanged.
+#[tactic(auto, unfolding(crate::specs::Calls::svga_read))]
 pub fn svga_read(device: &[u32], index: u32) -> u64
     ensures { result ≡ svga_read device.now index }
 {
@@ -109,6 +112,7 @@ pub fn svga_read(device: &[u32], index: u32) -> u64
 
 // A run: the answer in the high half, the commands consumed in the low.
 // Rules out: a run whose device is not written back; a count in the high half.
+#[tactic(auto, unfolding(crate::specs::Calls::svga_run))]
 pub fn svga_run(
     device: &mut [u32],
     ring: &mut [u32],
@@ -139,6 +143,7 @@ pub fn svga_run(
 
 // A finished picture.
 // Rules out: an output written by a refused call; 20 for words that hold no device.
+#[tactic(auto, unfolding(crate::specs::Calls::svga_picture))]
 pub fn svga_picture(device: &[u32], screen: &[u32], cursor: &[u32], output: &mut [u32]) -> u32
     ensures { record { answer = result; output = output.new }
         ≡ svga_picture device.now screen.now cursor.now output.old }
@@ -168,6 +173,7 @@ fn put_edges(edges: &mut [u32], e: Edges)
     edges[3] = e.bottom;
 }
 
+#[tactic(auto, unfolding(crate::specs::Calls::edges_held))]
 fn put_offscreen(edges: &mut [u32], d: Device) -> u32
     requires { length edges.old ≡ 4 }
     ensures { edges_call result edges.new ≡ edges_held edges.old (only_well_formed (Holds d)) }
@@ -183,6 +189,7 @@ fn put_offscreen(edges: &mut [u32], d: Device) -> u32
 
 // The usable offscreen rectangle: left, top, right, bottom.
 // Rules out: width and height in place of right and bottom; four zeros and answer 0 for words that hold no device.
+#[tactic(auto, unfolding(crate::specs::Calls::svga_offscreen))]
 pub fn svga_offscreen(device: &[u32], edges: &mut [u32]) -> u32
     ensures { edges_call result edges.new ≡ svga_offscreen device.now edges.old }
 {
@@ -199,6 +206,7 @@ pub fn svga_offscreen(device: &[u32], edges: &mut [u32]) -> u32
     }
 }
 
+#[tactic(auto, unfolding(crate::specs::Calls::fence_held))]
 fn fence_value(d: Device) -> u64
     ensures { result ≡ fence_held (only_well_formed (Holds d)) }
 {
@@ -211,6 +219,7 @@ fn fence_value(d: Device) -> u64
 
 // The last fence executed, in the low half.
 // Rules out: a fence of words that hold no device; 0 always.
+#[tactic(auto, unfolding(crate::specs::Calls::svga_fence))]
 pub fn svga_fence(device: &[u32]) -> u64
     ensures { result ≡ svga_fence device.now }
 {
@@ -228,6 +237,7 @@ pub fn svga_fence(device: &[u32]) -> u64
     }
 }
 
+#[tactic(auto, unfolding(crate::specs::Calls::passed_held))]
 fn passed_value(d: Device, fence: u32) -> u64
     ensures { result ≡ passed_held fence (only_well_formed (Holds d)) }
 {
@@ -244,6 +254,7 @@ fn passed_value(d: Device, fence: u32) -> u64
 
 // Whether a fence has passed: 1 or 0, in the low half.
 // Rules out: fence 2 passed when the last is 1; a refusal that reads as passed.
+#[tactic(auto, unfolding(crate::specs::Calls::svga_passed))]
 pub fn svga_fence_passed(device: &[u32], fence: u32) -> u64
     ensures { result ≡ svga_passed device.now fence }
 {
