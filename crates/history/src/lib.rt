@@ -19,6 +19,7 @@ pub enum Replayed {
 }
 
 // Whether the ring words say what is remembered, with nothing waiting.
+#[tactic(auto, using(ring::proofs::Laws::usable_when), unfolding(crate::specs::Demand::ring_at_start))]
 fn ring_at_start(ring: &[u32], g: Ring) -> bool
     ensures { result ≡ ring_at_start ring.now (Running g) }
 {
@@ -38,6 +39,7 @@ fn ring_at_start(ring: &[u32], g: Ring) -> bool
     ring[2] == ring[3]
 }
 
+#[tactic(auto, unfolding(crate::specs::Demand::ring_at_start))]
 fn condition_at_start(ring: &[u32], condition: Condition) -> bool
     ensures { result ≡ ring_at_start ring.now condition }
 {
