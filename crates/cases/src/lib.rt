@@ -6,6 +6,7 @@ ghost use Rattle.cases.specs.Cases.{cases};
 
 // How many cases the list has.
 // Rules out: a case left out; one counted twice.
+#[tactic(auto, unfolding(crate::specs::Cases::cases))]
 pub fn how_many() -> u32
     ensures { result ≡ length cases }
 {
