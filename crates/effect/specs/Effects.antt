@@ -84,12 +84,12 @@ posted_after posts Nothing posted = posted
 
 -- A cursor command defines id, hotspot and size.
 unfoldable pub defined_after : Action → Defined → Defined
-defined_after (Update r) defined = defined
-defined_after (Fill r colour rop) defined = defined
-defined_after (Copy from r rop) defined = defined
-defined_after (Define shape) defined = Cursor shape
-defined_after (Fence number) defined = defined
-defined_after Nothing defined = defined
+defined_after (Update r) was = was
+defined_after (Fill r colour rop) was = was
+defined_after (Copy from r rop) was = was
+defined_after (Define shape) was = Cursor shape
+defined_after (Fence number) was = was
+defined_after Nothing was = was
 
 abbrev pub marks_after : Action → Marks → Marks
 marks_after action m = record { fence = fence_after action m.fence; defined = defined_after action m.defined }
