@@ -1,5 +1,5 @@
 -- What is found ends the turn, which changes nothing, or is a command, executed with what it brings to the cursor.
-use Rattle.std.proofs.Common.{◌≡◌, ◌≤◌, refl, sym, ap, ◌∙◌, arith}
+use Rattle.std.proofs.Common.{refl, sym, ap, ◌∙◌, arith}
 use Rattle.execution.specs.Straight.{exec}
 use Rattle.ring.proofs.WaitingLaws.{length-words}
 use Rattle.ring.specs.Waiting.{carried}

@@ -1,7 +1,6 @@
 -- The line's first ten words say what the turn does.
-use Rattle.std.proofs.Common.{◌≡◌, ◌-◌, ◌≤◌, length, arith}
+use Rattle.std.proofs.Common.{arith}
 use Rattle.effect.specs.Effects.{scene}
-use Rattle.run.specs.Run.{machine, posted_in}
 use Rattle.run.proofs.TurnLaws.{stops, turn_drained, line_fits, line_goes, line_kept, line_same, line_short, line_faults, line_long}
 use Rattle.run.proofs.one_turn.Goals as goal
 

@@ -1,5 +1,5 @@
 -- Commands in a row and single turns are parts of the whole run, and a run may go on from where each of them ends.
-use Rattle.std.proofs.Common.{◌≡◌, ◌+◌, ◌-◌, ◌≤◌, ◌<◌, length, refl, ap, arith}
+use Rattle.std.proofs.Common.{refl, ap, arith}
 use Rattle.run.specs.Turns.{place_of}
 use Rattle.run.specs.Going.{stop_of}
 use Rattle.run.proofs.Posting.{clear_min}
