@@ -1,6 +1,6 @@
 -- A line is held byte by byte, and answered.
 -- Assumes nothing.
-use mathlib.Core.Path.{◌≡◌, sym}
+use mathlib.Core.Path.{◌≡◌}
 use mathlib.Core.Bool.{Bool, true, false, cond}
 use mathlib.Core.List.{List, []}
 use Prim.Native.Nat.{ℕ, ◌+◌, ◌≤◌, ◌<◌}
@@ -18,7 +18,7 @@ use Rattle.console_answers.specs.Put.{Put, shown}
 use Rattle.console_answers.proofs.Decimal.{text_short}
 use Rattle.console_answers.proofs.Putting.{put_taken}
 use Rattle.console_session.specs.Console.{Console, Performed, performed}
-use Rattle.console_session.specs.Session.{State, answered, kept, line_with, line_kept}
+use Rattle.console_session.specs.Session.{answered, kept, line_with, line_kept}
 
 pub kept_more : (line : List ℕ) (held b : ℕ) → held < 32 → held < length line → take (held + 1) (set line held b) ≡ kept (take held line) b
 unfolding kept

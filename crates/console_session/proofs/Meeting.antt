@@ -1,14 +1,14 @@
 -- Fed byte by byte and chunk by chunk, the console prints what its lines ask for: the definition by lines and the code's steps meet.
 -- Assumes nothing.
 use mathlib.Core.Path.{◌≡◌, refl, ap, sym, ◌∙◌}
-use mathlib.Core.Bool.{Bool, true, false, cond}
+use mathlib.Core.Bool.{true, false}
 use mathlib.Core.List.{List, [], ◌∷◌, ◌++◌, append-nil, append_assoc}
-use Prim.Native.Nat.{ℕ, ◌+◌, ◌≤◌, ◌<◌}
+use Prim.Native.Nat.{ℕ, ◌≤◌, ◌<◌}
 use native.Mathlib.Omega.{arith}
-use lib.Dec.{eqb, ltb, leb}
+use lib.Dec.{eqb, ltb}
 use lib.ListN.{length, take, replicate, length-append}
 use lib.Seq.{length-take-le, take_all, take-append-le}
-use borrow.Author.Tests.{ltb-true, ltb-false, lt-ltb, le-ltb, le-leb}
+use borrow.Author.Tests.{ltb-true, ltb-false, le-ltb, le-leb}
 use borrow.Table.Steps.{cases}
 use Rattle.cursor.specs.Plane.{image_words}
 use Rattle.device.specs.Device.{fresh}
@@ -17,7 +17,7 @@ use Rattle.console_lines.specs.Input.{lines_of}
 use Rattle.console_lines.specs.Lines.{in_first, request_of}
 use Rattle.console_lines.proofs.Long.{first_bytes}
 use Rattle.console_answers.specs.Text.{text_of}
-use Rattle.console_session.specs.Console.{Console, Performed, performed, memory, ring_words, pixels, ring_start, start}
+use Rattle.console_session.specs.Console.{Console, performed, memory, ring_words, pixels, ring_start, start}
 use Rattle.console_session.specs.Output.{answers_to, output_of}
 use Rattle.console_session.specs.Session.{State, begun, answered, kept, fed, fed_all, ended, flushed, written_out, served, joined, state_of}
 use Rattle.console_session.proofs.Behind.{behind_all, behind_ended, flushed_behind, flushed_all}

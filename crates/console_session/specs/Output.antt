@@ -3,7 +3,7 @@ use Rattle.std.specs.Prelude.{ℕ, List, [], ◌∷◌, ◌++◌}
 use Rattle.console_lines.specs.Input.{lines_of}
 use Rattle.console_lines.specs.Lines.{request_of}
 use Rattle.console_answers.specs.Text.{text_of}
-use Rattle.console_session.specs.Console.{Console, Performed, performed, start}
+use Rattle.console_session.specs.Console.{Console, performed, start}
 
 -- The answers in order, each request on the console that the last one left.
 unfoldable pub answers_to : Console → List (List ℕ) → List ℕ

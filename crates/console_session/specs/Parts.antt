@@ -6,7 +6,6 @@ use Rattle.register_write.specs.Answers.{WriteOutcome}
 use Rattle.console_answers.specs.declared.ConsoleAnswer.{ConsoleAnswer}
 use Rattle.console_answers.specs.declared.ConsoleAnswer.TheVariants.{Written, Full, Nothing}
 use Rattle.console_session.specs.declared.Performed.{Performed as Done}
-use Rattle.console_session.specs.declared.Session.{Session}
 
 -- The device stays.
 abbrev pub keeping_of : Device → ConsoleAnswer → Done

@@ -20,7 +20,7 @@ use Rattle.execution.specs.Turns.{LineRun, runs}
 use Rattle.execution.proofs.Laws.{Goes, goes_steps, goes_straight}
 use Rattle.execution.proofs.QueueLaws.{RunsRight}
 use Rattle.ring.specs.declared.Ring.{Ring}
-use Rattle.ring.specs.Acceptance.{next_of, usable, Usable}
+use Rattle.ring.specs.Acceptance.{next_of, Usable}
 use Rattle.ring.specs.Waiting.{ahead, between, waiting, carried, next_good}
 use Rattle.ring.proofs.Laws.{placed_when}
 use Rattle.ring.proofs.WaitingLaws.{length-waiting, words_left, words_left_written}

@@ -1,17 +1,17 @@
 -- What a turn that found a command has shown.
 -- Assumes nothing.
-use mathlib.Core.Path.{◌≡◌, refl, sym, ap, ◌∙◌}
+use mathlib.Core.Path.{◌≡◌, refl, ap, ◌∙◌}
 use mathlib.Core.Bool.{Bool, true, true≢false}
 use mathlib.Core.Option.{Option, none, some}
 use mathlib.Core.List.{List, ◌++◌}
-use Prim.Native.Nat.{ℕ, ◌+◌, ◌*◌, ◌≤◌}
+use Prim.Native.Nat.{ℕ, ◌*◌, ◌≤◌}
 use native.Mathlib.Omega.{arith}
 use lib.Dec.{leb}
 use lib.ListN.{length, take, drop}
 use lib.Seq.{take-take}
 use borrow.Author.Tests.{leb-true}
 use Rattle.geometry.proofs.Tests.{both}
-use Rattle.execution.specs.Straight.{Turn, ends, exec}
+use Rattle.execution.specs.Straight.{Turn, exec}
 use Rattle.cursor.specs.declared.Shape.{Shape}
 use Rattle.cursor.specs.Plane.{shape_good}
 use Rattle.command.specs.declared.Action.{Action}
@@ -21,7 +21,7 @@ use Rattle.command.specs.declared.Kind.{Kind}
 use Rattle.command.specs.declared.Kind.TheVariants.{Update, RectFill, RectCopy, RectRopFill, RectRopCopy, DefineAlphaCursor, UpdateVerbose, Fence, Escape, Foreign}
 use Rattle.command.specs.Commands.{entry, size_by, shape_at, kind_in}
 use Rattle.command.specs.Findings.{finds_in, kind_with}
-use Rattle.command.proofs.Rules.{Ruled, foreign, no_head, bad_head, long, no_rest, bad, well, ruled, turn_none}
+use Rattle.command.proofs.Rules.{Ruled, foreign, no_head, bad_head, long, no_rest, bad, well, ruled}
 use Rattle.effect.specs.Effects.{Scene, screen_after, posted_after, cursor_after}
 use Rattle.run.specs.Turns.{Ready}
 use Rattle.run.proofs.Rows.{drop-take}

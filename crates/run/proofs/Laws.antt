@@ -11,7 +11,6 @@ use Rattle.ring.specs.declared.Ring.{Ring}
 use Rattle.ring.proofs.Laws.{placed_when}
 use Rattle.ring.proofs.WaitingLaws.{between_carried}
 use Rattle.ring.specs.Waiting.{placed, next_good}
-use Rattle.run.specs.declared.View.{View}
 use Rattle.run.specs.Turns.{InView, view_of}
 
 pub next_says : (g : Ring) (next : ℕ) → next_good g next ≡ true → (g.min ≤ next / 4) × (next / 4 < g.max)

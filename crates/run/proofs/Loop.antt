@@ -1,34 +1,32 @@
 -- The turns of a run so far, and what is left of it.
 -- Assumes nothing.
-use mathlib.Core.Path.{◌≡◌, refl, sym, ap, ap₂, ◌∙◌}
+use mathlib.Core.Path.{◌≡◌, refl, sym, ap, ◌∙◌}
 use mathlib.Core.Bool.{Bool, cond, true≢false}
-use mathlib.Core.Option.{Option, none, some}
+use mathlib.Core.Option.{none, some}
 use mathlib.Core.List.{List, ◌++◌}
 use Prim.Native.Nat.{ℕ, suc, ◌+◌, ◌-◌, ◌≤◌, ◌<◌}
 use native.Mathlib.Omega.{arith}
 use lib.Dec.{eqb, ltb, leb}
-use lib.ListN.{length, take, drop, length-drop, take-append-drop}
-use lib.Seq.{drop-drop, drop-append-le, length-take-le}
+use lib.ListN.{length, drop, length-drop, take-append-drop}
+use lib.Seq.{drop-drop, drop-append-le}
 use mathlib.Core.Logic.{◌≢◌}
 use borrow.Author.Tests.{ltb-true, ltb-false, lt-ltb, eqb-true, eqb-false, eq-eqb, ne_eqb}
 use borrow.Table.Steps.{cases}
 use Rattle.execution.specs.declared.End.{End}
 use Rattle.execution.specs.Straight.{Line, ends, exec}
 use Rattle.execution.specs.Straight as O
-use Rattle.execution.specs.Table.{turn_of}
 use Rattle.execution.specs.Claim as Claim
 use Rattle.execution.specs.Turns.{LineRun, runs}
 use Rattle.execution.proofs.QueueLaws.{runs_ends, runs_exec}
-use Rattle.ring.specs.Waiting.{ahead, words, carried}
+use Rattle.ring.specs.Waiting.{ahead, carried}
 use Rattle.ring.proofs.WaitingLaws.{InRing, ahead_in, ahead_zero, ahead_ahead, length-words, take_words, drop-words}
 use Rattle.cursor.specs.declared.Defined.{Defined}
 use Rattle.command.proofs.Laws.{command_laws}
 use Rattle.effect.specs.declared.Marks.{Marks}
 use Rattle.effect.specs.Effects.{Scene, Machine, done}
 use Rattle.run.specs.declared.View.{View}
-use Rattle.run.specs.declared.Paused.{Paused}
 use Rattle.run.specs.Turns.{words_in, InView, Stands, passed_in, row_in, row_end, place_of}
-use Rattle.run.specs.Run.{known_of, machine, table, passed, stamped, posts_in, posting, posted_in, left, run_words}
+use Rattle.run.specs.Run.{known_of, machine, passed, stamped, posts_in, posting, posted_in, left, run_words}
 use Rattle.run.specs.Going.{plus, line, turn, marked, Going, RowGoing, After, turned_by, turned}
 use Rattle.run.proofs.Copying.{straight}
 use Rattle.run.proofs.Counts.{plus_zero, plus_end, plus_one, plus_plus}

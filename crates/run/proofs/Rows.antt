@@ -1,8 +1,8 @@
 -- Commands in a row of words.
 -- Assumes nothing.
-use mathlib.Core.Path.{◌≡◌, refl, sym, ap, ap₂, ◌∙◌}
+use mathlib.Core.Path.{◌≡◌, refl, sym, ap, ◌∙◌}
 use mathlib.Core.Bool.{cond, true, true≢false}
-use mathlib.Core.Option.{none, some}
+use mathlib.Core.Option.{none}
 use mathlib.Core.List.{List, [], ◌∷◌, ◌++◌}
 use Prim.Native.Nat.{ℕ, zero, suc, ◌+◌, ◌-◌, ◌≤◌, ◌<◌}
 use native.Mathlib.Omega.{arith}
@@ -12,25 +12,22 @@ use lib.ListN.{length, take, drop, length-drop}
 use lib.Seq.{take-nil, drop-drop, drop-append-le, length-take-le}
 use borrow.Author.Tests.{ne_eqb, eq-eqb, ltb-true, ltb-false}
 use borrow.Table.Steps.{cases}
-use Rattle.execution.specs.declared.Cause.{Cause}
 use Rattle.execution.specs.declared.Cause.TheVariants.{BadOperand}
-use Rattle.execution.specs.Straight.{Line, exec}
+use Rattle.execution.specs.Straight.{exec}
 use Rattle.execution.specs.Table.{turn_of}
-use Rattle.execution.specs.Turns.{LineRun, runs}
+use Rattle.execution.specs.Turns.{runs}
 use Rattle.execution.proofs.QueueLaws.{runs_exec}
 use Rattle.cursor.specs.declared.Defined.{Defined}
 use Rattle.command.specs.declared.Action.{Action}
 use Rattle.command.specs.declared.Action.TheVariants as A
-use Rattle.command.specs.declared.Data.{Data}
 use Rattle.command.specs.declared.Step.{Step}
 use Rattle.command.specs.declared.Step.TheVariants.{Does}
-use Rattle.command.specs.declared.Step.TheVariants as Step
 use Rattle.command.specs.Commands.{entry, kind_in}
 use Rattle.command.specs.Findings.{data_of, step_in, on_machine}
 use Rattle.command.proofs.Rules.{turn_found}
 use Rattle.command.proofs.Steps.{KeepsCursor, step_short, step_bad, step_does, whole, does_turn}
-use Rattle.effect.specs.Effects.{Scene, Machine, screen_after, fence_after, posted_after, defined_after, cursor_after, done}
-use Rattle.run.specs.declared.Pause.TheVariants.{Spent, Short, Faults, Long}
+use Rattle.effect.specs.Effects.{Scene, screen_after, fence_after, posted_after, defined_after, cursor_after, done}
+use Rattle.run.specs.declared.Pause.TheVariants.{Spent, Short, Faults}
 use Rattle.run.specs.Run.{known_of, machine, table, stamped, posting, posted_in}
 use Rattle.run.specs.Turns.{row_in, Clear}
 use Rattle.run.specs.Going.{plus, line, marked, pause_of, Pauses, RowGoing}

@@ -1,9 +1,9 @@
 -- One turn, by what its first ten words say.
 -- Assumes nothing.
 use mathlib.Core.Path.{◌≡◌, refl, sym, ap, ◌∙◌}
-use mathlib.Core.Option.{Option, none, some}
+use mathlib.Core.Option.{none, some}
 use mathlib.Core.List.{List, ◌++◌}
-use Prim.Native.Nat.{ℕ, suc, zero, ◌+◌, ◌-◌, ◌≤◌, ◌<◌}
+use Prim.Native.Nat.{ℕ, ◌+◌, ◌-◌, ◌≤◌, ◌<◌}
 use mathlib.Core.Bool.{Bool, true, false}
 use native.Mathlib.Omega.{arith}
 use lib.Dec.{ltb}
@@ -20,7 +20,7 @@ use Rattle.execution.specs.Turns.{LineRun, runs}
 use Rattle.execution.proofs.QueueLaws.{runs_ends, runs_exec}
 use Rattle.execution.specs.Table.{turn_of}
 use Rattle.ring.specs.Acceptance.{max_words}
-use Rattle.ring.specs.Waiting.{ahead, carried}
+use Rattle.ring.specs.Waiting.{carried}
 use Rattle.ring.proofs.WaitingLaws.{ahead_in, length-words}
 use Rattle.cursor.specs.declared.Defined.{Defined}
 use Rattle.command.specs.declared.Action.{Action}
@@ -33,11 +33,11 @@ use Rattle.command.specs.Findings.{finds_in, as_turn, kind_with, begun, step_in,
 use Rattle.command.proofs.Laws.{head_some, command_laws}
 use Rattle.command.proofs.Begun.{finds_alike, length-begun, word_begun, kind_begun}
 use Rattle.command.proofs.Rules.{turn_found, turn_none}
-use Rattle.command.proofs.Steps.{short_few, short_turn, fault_turn, long_kind, long_there}
+use Rattle.command.proofs.Steps.{short_few, short_turn, fault_turn, long_kind}
 use Rattle.effect.specs.declared.Marks.{Marks}
 use Rattle.effect.specs.Effects.{Scene, Machine, screen_after, posted_after, cursor_after, marks_after, done}
 use Rattle.run.specs.declared.View.{View}
-use Rattle.run.specs.Turns.{InView, Stands, words_in, passed_in, row_in, LineOf}
+use Rattle.run.specs.Turns.{InView, words_in, passed_in, row_in, LineOf}
 use Rattle.run.specs.Run.{known_of, machine, table, stamped, posting, posted_in}
 use Rattle.run.specs.Going.{plus, line, marked, turn, RowGoing, turned_by, turned}
 use Rattle.run.proofs.Posting.{posted_none, posted_written}

@@ -11,7 +11,6 @@ use Rattle.ring.specs.Waiting.{carried}
 use Rattle.cursor.specs.declared.Defined.{Defined}
 use Rattle.command.specs.declared.Data.{Data}
 use Rattle.command.specs.declared.Step.{Step}
-use Rattle.command.specs.declared.Step.TheVariants as Step
 use Rattle.command.specs.Findings.{step_in}
 use Rattle.effect.specs.declared.Marks.{Marks}
 use Rattle.effect.specs.Effects.{Scene, Machine}

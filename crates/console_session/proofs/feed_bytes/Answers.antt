@@ -1,5 +1,5 @@
 -- One byte more is fed.
-use Rattle.std.proofs.Common.{arith, rules, refl}
+use Rattle.std.proofs.Common.{rules, refl}
 use Rattle.console_answers.proofs.Putting.{put_none, put_then}
 use Rattle.console_session.specs.Session.{fed_all, line_fed}
 use Rattle.console_session.proofs.Feeding.{fed_one, text_one, line_one}

@@ -1,5 +1,5 @@
 -- Each turn counts a word that differs, and the end has looked at all of them.
-use Rattle.std.proofs.Common.{◌≡◌, eqb, get_or, take, ap, ◌∙◌, arith}
+use Rattle.std.proofs.Common.{eqb, get_or, take, ap, ◌∙◌, arith}
 use Rattle.device_words.specs.Words.{same}
 use Rattle.device_words.proofs.Laws.{same_more, same_whole, at_most_one}
 use Rattle.device_words.proofs.are_same.Goals as goal

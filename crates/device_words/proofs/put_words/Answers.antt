@@ -1,5 +1,5 @@
 -- Each turn copies one word more, and the end has copied all of them.
-use Rattle.std.proofs.Common.{◌≡◌, get_or, refl, ap, ◌∙◌, arith}
+use Rattle.std.proofs.Common.{get_or, refl, ap, ◌∙◌, arith}
 use Rattle.std.proofs.Math.ListN.{set, length-set}
 use lib.Seq.{paste, paste-zero}
 use Rattle.device_words.proofs.Laws.{paste_more, paste_whole}

@@ -1,5 +1,5 @@
 -- The pairs before i are performed, and the walk still to do is the rest of the whole walk.
-use Rattle.std.proofs.Common.{◌≡◌, ◌-◌, length}
+use Rattle.std.proofs.Common.{◌-◌, length}
 use Rattle.device_run.specs.Run.{lent}
 use Rattle.history.specs.Replay.{world}
 use Rattle.history.proofs.Walks.{Walked}

@@ -1,5 +1,5 @@
 -- Each kind of command, by what a step says of it. The kinds that the match does not name are of fixed length and offered.
-use Rattle.std.proofs.Common.{◌≡◌, ℕ, List, true, cond, ltb, length, refl, sym, ap, ◌∙◌, arith}
+use Rattle.std.proofs.Common.{◌≡◌, ℕ, List, cond, ltb, length, refl, sym, ap, ◌∙◌, arith}
 use Rattle.std.proofs.Math.Option.{none}
 use Rattle.execution.specs.declared.Cause.TheVariants.{BadOperand}
 use Rattle.command.specs.declared.Kind.{Kind}
