@@ -1,8 +1,8 @@
 /*
  * svga.h: the host side of a VMware SVGA II display adapter.
  *
- * Link libsvga.a (`tools/archive svga` puts it into target/staticlib); it needs memcpy and memmove of the C library and nothing else. C99 or
- * C++.
+ * Link libsvga.a (`tools/archive svga` puts it into target/staticlib); it needs memcpy and memmove of the C library and an x86-64-v2
+ * processor, and nothing else. C99 or C++.
  *
  * The library has no memory of its own and keeps no pointer. A device is SVGA_DEVICE_WORDS words that you hold, and each call is lent
  * the memories that it works on, each as a pointer and a length in 32-bit words:

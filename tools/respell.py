@@ -48,7 +48,7 @@ def declared(text):
             continue
         if not line.startswith(" "):
             inside = None
-        top = re.match(r"((?:abbrev |unfoldable |pub )*)([^\s:(){}=]+)\s+:\s", line)
+        top = re.match(r"((?:abbrev |unfoldable |pub )*)([^\s:(){}=]+)\s+:(?:\s|$)", line)
         if top and not line.startswith(" "):
             yield top.group(2), "abbrev" in top.group(1) or "unfoldable" in top.group(1)
             continue
@@ -56,7 +56,7 @@ def declared(text):
         if member and inside:
             for name in member.group(1).split():
                 yield name, False
-        nested = re.match(r" +((?:abbrev |unfoldable |pub )*)([^\s:(){}=]+)\s+:\s", line)
+        nested = re.match(r" +((?:abbrev |unfoldable |pub )*)([^\s:(){}=]+)\s+:(?:\s|$)", line)
         if nested and not inside:
             yield nested.group(2), False
 

@@ -369,10 +369,10 @@ module _ (d : Device) (l : Lent) (budget : ℕ) where
 
     -- Document 02, P6: "Drivers use 0 for "no fence"", and "FENCE 0 becomes a fault". If a FENCE is among the commands that the run counted, the last fence is
     -- not 0 then; and a run never brings ring word 6 to 0.
-    pub run-never-zero :
+    pub run_never_zero :
         ((¬ NoFence (turn_for d l g) (run_of d l budget).count (line_of d l g)) → fence_of (run_of d l budget).device ≢ 0)
         × (get_or (run_of d l budget).lent.ring 6 0 ≡ 0 → get_or l.ring 6 0 ≡ 0)
-    run-never-zero =
+    run_never_zero =
         cases (next_good g (next_of l.ring))
         (λ good. rw (run_starts, (straight_so ((next_usable g (next_of l.ring)).0 good)).0) (ran_never_zero d l g budget fits))
         (λ bad.

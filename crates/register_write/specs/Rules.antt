@@ -16,7 +16,7 @@ use Rattle.register_write.specs.Registers.{in_range}
 pub data Why (d : Device) (ring : List ℕ) (index v : ℕ) : ℕ → Type 0 where
   -- "no such register"
   no_register : register_of index ≡ Absent → Why d ring index v 30
-  -- "read_only"
+  -- "read-only"
   read_only : (r : ReadOnly) → register_of index ≡ Reads r → Why d ring index v 31
   -- "A value outside these is 32"
   bad_value : (w : Writable) → register_of index ≡ Writes w → in_range w v ≡ false → Why d ring index v 32

@@ -1,6 +1,5 @@
 -- A run that is not refused before its condition is looked at goes by its condition.
-use Rattle.std.proofs.Common.{◌≡◌, true, false, sym, ◌∙◌}
-use borrow.Author.Tests.{not-false}
+use Rattle.std.proofs.Common.{◌≡◌, true, false, sym, ◌∙◌, rules}
 use Rattle.device.specs.Device.{mode_fits, well_formed}
 use Rattle.device_run.specs.Run.{lent, lent_good, run_by, run_of}
 use Rattle.device_run.proofs.RunLaws.{run_by_lem}
@@ -12,8 +11,10 @@ returns-then-not-fits c =
     let a = c.args in
     let good : well_formed a.d ≡ true = cc in
     let long : lent_good a.d (lent a.ring.now a.framebuffer.now a.screen.now a.cursor.now) ≡ true = cc in
+    let config : a.d.registers.config ≡ true = search rules in
+    let enable : a.d.registers.enable ≡ true = search rules in
     let large : mode_fits a.d ≡ false = cc in
-    rw (c.refused-then-not-fits.ensures, good, long, not-false _ c.if-not-g.false, not-false _ c.if-not-g-2.false, large)
+    rw (c.refused-then-not-fits.ensures, good, long, config, enable, large)
 
 pub run_ring-requires : goal.run_ring-requires
 run_ring-requires c = (cc, cc)
@@ -22,15 +23,15 @@ pub returns-in-Idle : goal.returns-in-Idle
 unfolding run_by
 returns-in-Idle c =
     rw c.refused-in-Idle.ensures
-    (sym (run_by_lem c.args.d _ c.args.budget _ (cc) (cc) (not-false _ c.if-not-g.false) (not-false _ c.if-not-g-2.false) (cc) c.in-Idle.is))
+    (sym (run_by_lem c.args.d _ c.args.budget _ (cc) (cc) (search rules) (search rules) (cc) c.in-Idle.is))
 
 pub returns-in-Running : goal.returns-in-Running
 returns-in-Running c =
     c.run_ring.ensures
-    ∙ sym (run_by_lem c.args.d _ c.args.budget _ (cc) (cc) (not-false _ c.if-not-g.false) (not-false _ c.if-not-g-2.false) (cc) c.in-Running.is)
+    ∙ sym (run_by_lem c.args.d _ c.args.budget _ (cc) (cc) (search rules) (search rules) (cc) c.in-Running.is)
 
 pub returns-in-Faulted : goal.returns-in-Faulted
 unfolding run_by
 returns-in-Faulted c =
     rw c.refused-in-Faulted.ensures
-    (sym (run_by_lem c.args.d _ c.args.budget _ (cc) (cc) (not-false _ c.if-not-g.false) (not-false _ c.if-not-g-2.false) (cc) c.in-Faulted.is))
+    (sym (run_by_lem c.args.d _ c.args.budget _ (cc) (cc) (search rules) (search rules) (cc) c.in-Faulted.is))
