@@ -43,6 +43,8 @@ use Rattle.adapter.specs.Picture.{cursor_over, lengths_good, picture_of}
 use Rattle.device_run.specs.Run.{Lent, RunOutcome, condition_after, busy_after, machine_of, scene_for, line_of, turn_for, refused_run, ran, run_of}
 use Rattle.device.proofs.Laws.{well_formed_lem}
 use Rattle.offscreen.proofs.Joined.{joined_places}
+use Rattle.register.proofs.ByNumber.{writable_number}
+use Rattle.register_write.proofs.Effects.{is_other}
 use Rattle.register_write.proofs.Kept.{part_kept, sizes_kept, marks_kept, busy_kept}
 use Rattle.register_read.proofs.Readings.{value_kept}
 use Rattle.register_write.specs.Rules.{Why, no_register, read_only, bad_value, wrong_length, ring_refused, is_taken}
@@ -52,7 +54,7 @@ use Rattle.history.proofs.KeptByRun.{left_sound, left_stays, open_sound, refused
 use Rattle.history.specs.Calls.{World, Call, make, write, read, run, append, submit, picture, offscreen, fence, passed, lend, perform, perform_all}
 use Rattle.history.specs.Harm.{row, among, SameBut, InMode, InReach, cursor_filled, Posts}
 use Rattle.history.specs.Harm.{WriteChanges, ConditionChanges, RunChanges, FromNext, AppendChanges, PictureChanges, OnlyNamed, Safe, Harmless}
-use Rattle.history.proofs.Starts.{writes_number, not_one, condition_kept, refused_stays}
+use Rattle.history.proofs.Starts.{condition_kept, refused_stays}
 
 -- ---- answers
 
@@ -64,7 +66,7 @@ why_row : (d : Device) (ring : List ℕ) (index value a : ℕ) → Why d ring in
 why_row d ring index value a (no_register e) = cases (eqb index 20) (λ t. rw t) (λ f. rw f)
 why_row d ring index value a (read_only r e) = cases (eqb index 20) (λ t. rw t) (λ f. rw f)
 why_row d ring index value a (bad_value w e f) = cases (eqb index 20) (λ t. rw t) (λ f. rw f)
-why_row d ring index value a (wrong_length e o n) = rw (eq-eqb index 20 (writes_number index ConfigDone e))
+why_row d ring index value a (wrong_length e o n) = rw (eq-eqb index 20 (writable_number index ConfigDone e))
 why_row d ring index value a (ring_refused e o n u) = cases (eqb index 20) (λ t. rw t) (λ f. rw f)
 why_row d ring index value a (is_taken w e t r) = cases (eqb index 20) (λ t. rw t) (λ f. rw f)
 
@@ -152,11 +154,11 @@ write_changes index value w =
     let ring = w.lent.ring in
     record {
       registers = value_kept d ring index value;
-      plane = λ n. part_kept (λ (e : Device). e.plane) d ring index value (λ x q e. rw (not_one index x CursorOn q n));
+      plane = λ n. part_kept (λ (e : Device). e.plane) d ring index value (λ x q e. rw (is_other index x CursorOn q n));
       condition = condition_kept d ring value index;
       busy = λ s e c.
           busy_kept d ring index value
-          (λ q. s (writes_number index Sync q)) (λ q. e (writes_number index Enable q)) (λ q. c (writes_number index ConfigDone q));
+          (λ q. s (writable_number index Sync q)) (λ q. e (writable_number index Enable q)) (λ q. c (writable_number index ConfigDone q));
       sizes = sizes_kept d ring index value;
       marks = marks_kept d ring index value;
       lent = refl;

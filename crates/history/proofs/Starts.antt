@@ -18,7 +18,7 @@ use Rattle.writer.proofs.Appending.{write_refused}
 use Rattle.register.specs.declared.Register.TheVariants.{Writes}
 use Rattle.register.specs.declared.Writable.{Writable}
 use Rattle.register.specs.declared.Writable.TheVariants.{Enable, Width, Height, ConfigDone}
-use Rattle.register.specs.Numbers.{Numbered, numbers, among, register_of, number_of}
+use Rattle.register.specs.Numbers.{numbers, register_of, number_of}
 use Rattle.effect.specs.declared.Marks.{Marks}
 use Rattle.device.specs.declared.Device.{Device}
 use Rattle.device.specs.declared.Sizes.{Sizes}
@@ -33,7 +33,7 @@ use Rattle.device_run.specs.Run as R
 use Rattle.device_run.specs.Run.{RunOutcome, lent_good}
 use Rattle.device.proofs.Laws.{well_formed_lem}
 use Rattle.device.proofs.Kept.{fresh_well_formed}
-use Rattle.register_write.proofs.Effects.{is, only_own, width_stored, height_stored, enable_sets}
+use Rattle.register_write.proofs.Effects.{is, is_other, only_own, width_stored, height_stored, enable_sets}
 use Rattle.register_write.proofs.Kept.{remembered, effect_taken, ring_taken, written_well_formed, part_kept, sizes_kept, marks_kept}
 use Rattle.register_write.proofs.Refusals.{refused_changes_nothing, ill_formed_write, only}
 use Rattle.adapter.proofs.Refusals.{refused_picture}
@@ -186,26 +186,6 @@ start_reached w memory pixels width height good a b c d fits r f s k u n =
 
 -- ---- the start is kept
 
--- the table's numbers are those of its registers
-abbrev right : List Numbered → Bool
-right [] = true
-right (r ∷ rs) = eqb (number_of r.register) r.number && right rs
-
-among_number : (rs : List Numbered) → right rs ≡ true → (index : ℕ) (w : Writable) → among index rs ≡ Writes w → index ≡ number_of (Writes w)
-among_number [] t index w e = absurd (true≢false cc)
-among_number (r ∷ rs) t index w e =
-    let b = both (eqb (number_of r.register) r.number) (right rs) t in
-    cases (eqb index r.number)
-    (λ y.
-    let q : r.register ≡ Writes w = rw y at e in
-    eqb-true index r.number y ∙ sym (eqb-true (number_of r.register) r.number b.0) ∙ ap number_of q)
-    (λ f. among_number rs b.1 index w (rw f at e))
-
--- the number of a register that can be written
-pub writes_number : (index : ℕ) (w : Writable) → register_of index ≡ Writes w → index ≡ number_of (Writes w)
-unfolding register_of numbers
-writes_number index w e = among_number numbers refl index w e
-
 -- What a start asks of a device: two that agree in it are both at a start, or neither.
 pub record Alike (d e : Device) : Type 0 where
   pub sizes : e.sizes ≡ d.sizes
@@ -220,18 +200,14 @@ alike_start : (w : World) (e : Device) → Alike w.device e → is_start (with_d
 unfolding is_start well_formed lent_good
 alike_start w e s = rw (s.sizes, s.width, s.height, s.enable, s.config, s.condition, s.defined)
 
--- a register whose number is not that of r is not r
-pub not_one : (index : ℕ) (w r : Writable) → register_of index ≡ Writes w → (index ≡ number_of (Writes r) → ⊥) → is w r ≡ false
-not_one index w r q n = ne_eqb _ _ (λ e. n (writes_number index w q ∙ e))
-
 alike_written : (d : Device) (ring : List ℕ) (index v : ℕ) → (index ≡ 1 → ⊥) → (index ≡ 2 → ⊥) → (index ≡ 3 → ⊥) → (index ≡ 20 → ⊥) → Alike d (written d ring index v).device
 alike_written d ring index v a b c e = record {
   sizes = sizes_kept d ring index v;
-  width = part_kept width_of d ring index v (λ w q x. rw (not_one index w Width q b));
-  height = part_kept height_of d ring index v (λ w q x. rw (not_one index w Height q c));
-  enable = part_kept enabled_of d ring index v (λ w q x. rw (not_one index w Enable q a));
-  config = part_kept configured_of d ring index v (λ w q x. rw (not_one index w ConfigDone q e));
-  condition = part_kept condition_of d ring index v (λ w q x. rw (not_one index w ConfigDone q e));
+  width = part_kept width_of d ring index v (λ w q x. rw (is_other index w Width q b));
+  height = part_kept height_of d ring index v (λ w q x. rw (is_other index w Height q c));
+  enable = part_kept enabled_of d ring index v (λ w q x. rw (is_other index w Enable q a));
+  config = part_kept configured_of d ring index v (λ w q x. rw (is_other index w ConfigDone q e));
+  condition = part_kept condition_of d ring index v (λ w q x. rw (is_other index w ConfigDone q e));
   defined = ap (λ (m : Marks). m.defined) (marks_kept d ring index v);
 }
 
@@ -348,7 +324,7 @@ all_well_formed (c ∷ cs) w y = all_well_formed cs (perform c w).world (perform
 
 -- only CONFIG_DONE touches the remembered ring
 pub condition_kept : (d : Device) (ring : List ℕ) (v index : ℕ) → (index ≡ 20 → ⊥) → condition_of (written d ring index v).device ≡ condition_of d
-condition_kept d ring v index h = part_kept condition_of d ring index v (λ w q x. rw (not_one index w ConfigDone q h))
+condition_kept d ring v index h = part_kept condition_of d ring index v (λ w q x. rw (is_other index w ConfigDone q h))
 
 leaves_condition : (c : Call) (w : World) → Leaves c → condition_of (perform c w).world.device ≡ condition_of w.device
 unfolding perform
