@@ -17,7 +17,15 @@ TOKEN = re.compile(r"[^\s(){}.;,:|\"`\[\]⌜⌝⟦⟧]+")
 # What the laws' names call words of std.
 WORDS = {"getD": "get_or"}
 # Laws on such a word that port.py respelled otherwise, and members of specs/ that would fall together with a definition.
-ON_WORDS = {"ops-of": "ops_in", "fault-stands": "fault_stands", "is-command": "is_a_command", "get_d_words": "get_or-words", "get_d_tabulate": "get_or-tabulate", "get_d_front": "get_or-front", "get_d_past": "get_or_past"}
+ON_WORDS = {
+    "ops-of": "ops_in",
+    "fault-stands": "fault_stands",
+    "is-command": "is_a_command",
+    "get_d_words": "get_or-words",
+    "get_d_tabulate": "get_or-tabulate",
+    "get_d_front": "get_or-front",
+    "get_d_past": "get_or_past",
+}
 STD = set("length append get_or take drop map replicate sum min max".split())
 # Laws that have a definition's new name after port.py.
 LAWS = set("held_in left_by lent_length one_more read_back rows_fit run_in set_reads too_large turned_by written_out".split())
