@@ -2,7 +2,8 @@
 """names.py: what the documents name in backticks is there, and their links lead somewhere.
 
 In docs/PROMISES.md, docs/ARCHITECTURE.md, docs/DECISIONS.md and CONTRIBUTING.md:
-  `crate::name`       a function, struct or enum of crates/CRATE/src, or what it passes on of another crate by 'pub use'
+  `crate::name`       a function, struct, enum or trait of crates/CRATE/src, or what it passes on of another crate by 'pub use';
+                      `crate::Type::name` a method of it
   `crate/File.name`   a declaration of crates/CRATE/specs/File.antt or crates/CRATE/proofs/File.antt
   `any/path`          a file or folder of the repository (target/ and a crate's out/ are made, and passed over), as crates/raster/proofs/fill;
                       NAME and LABEL in it stand for any name, of which there must be one
@@ -34,7 +35,7 @@ def declared_in_source(crate):
     names = set()
     for source in (ROOT / "crates" / crate / "src").rglob("*.rt"):
         text = source.read_text()
-        names.update(re.findall(r"^\s*(?:pub )?(?:extern \"C\" )?(?:fn|struct|enum)\s+(\w+)", text, re.M))
+        names.update(re.findall(r"^\s*(?:pub )?(?:extern \"C\" )?(?:const )?(?:fn|struct|enum|trait)\s+(\w+)", text, re.M))
         for passed_on in re.findall(r"^pub use ([^;]*);", text, re.M):
             names.update(re.findall(r"(\w+)\s*(?=[,}]|\Z)", passed_on))
     return names
@@ -50,8 +51,9 @@ def check_function(where, crate, name):
         return
     if crate not in crates():
         report.fail(f"{where}: `{crate}::{name}`: crates.txt lists no crate {crate}")
-    elif name not in declared_in_source(crate):
-        report.fail(f"{where}: `{crate}::{name}`: crates/{crate}/src has no function, struct or enum {name}")
+    for part in name.split("::") if crate in crates() else ():
+        if part not in declared_in_source(crate):
+            report.fail(f"{where}: `{crate}::{name}`: crates/{crate}/src has no function, struct, enum or trait {part}")
 
 
 def check_declaration(where, crate, file, name):
@@ -81,7 +83,7 @@ def check_path(where, path):
 
 def check_word(where, word):
     """Whether the word was a reference."""
-    function = re.fullmatch(r"([a-z]\w*)::(\w+)(?:\(.*\))?", word)
+    function = re.fullmatch(r"([a-z]\w*)::(\w+(?:::\w+)*)(?:\(.*\))?", word)
     declaration = re.fullmatch(r"([a-z]\w*)/([A-Z]\w*)\.([^\s/]+)", word)
     if function:
         check_function(where, *function.groups())

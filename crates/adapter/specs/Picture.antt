@@ -1,35 +1,33 @@
 -- A device's picture: document 01, "The cursor plane".
-use Rattle.std.specs.Prelude.{ℕ, Bool, cond, ◌&&◌, List, length, ◌==◌}
-use Rattle.picture.specs.declared.Overlay.{Overlay}
-use Rattle.picture.specs.declared.Overlay.TheVariants.{Nothing, Cursor as Appears}
+use Rattle.std.specs.Prelude.{ℕ, Bool, cond, ◌&&◌, List, length, ◌==◌, Option, None, Some, Result, Ok, Err}
+use Rattle.cursor.specs.declared.Shape.{Shape}
+use Rattle.picture.specs.declared.VisibleCursor.{VisibleCursor}
 use Rattle.picture.specs.Picture.{composed}
 use Rattle.cursor.specs.Plane.{image_words}
-use Rattle.cursor.specs.declared.Defined.{Defined}
-use Rattle.cursor.specs.declared.Defined.TheVariants.{Undefined, Cursor}
 use Rattle.device.specs.declared.Device.{Device}
 use Rattle.device.specs.Device.{pixels_of, width_of, height_of, defined_of, mode_fits, well_formed}
-use Rattle.adapter.specs.declared.PictureAnswer.{PictureAnswer}
-use Rattle.adapter.specs.declared.PictureAnswer.TheVariants.{Taken as Shown, WrongLength as NotLent, TooLarge}
+use Rattle.adapter.specs.declared.PictureError.{PictureError}
+use Rattle.adapter.specs.declared.PictureError.TheVariants.{WrongLength, TooLarge}
 
 -- picture: 0 taken, 20 lent length, 24 width·height above P
-abbrev pub picture_number : PictureAnswer → ℕ
-picture_number Shown = 0
-picture_number NotLent = 20
-picture_number TooLarge = 24
+abbrev pub picture_number : Result (Unit {0}) PictureError → ℕ
+picture_number (Ok t) = 0
+picture_number (Err WrongLength) = 20
+picture_number (Err TooLarge) = 24
 
 -- A picture answers a number and leaves an output.
 pub record Pictured : Type 0 where
   pub answer : ℕ
   pub output : List ℕ
 
-abbrev pub pictured : PictureAnswer → List ℕ → Pictured
+abbrev pub pictured : Result (Unit {0}) PictureError → List ℕ → Pictured
 pictured a output = record { answer = picture_number a; output = output }
 
 -- "In a picture the cursor appears if shown and its remembered id is that of the defined cursor": at the remembered X and Y.
-unfoldable pub cursor_over : Device → Defined → Overlay
-cursor_over d Undefined = Nothing
-cursor_over d (Cursor s) =
-    cond d.plane.shown (cond (d.plane.id == s.id) (Appears (record { shape = s; x = d.plane.x; y = d.plane.y })) Nothing) Nothing
+unfoldable pub cursor_over : Device → Option Shape → Option VisibleCursor
+cursor_over d None = None
+cursor_over d (Some s) =
+    cond d.plane.shown (cond (d.plane.id == s.id) (Some (record { shape = s; x = d.plane.x; y = d.plane.y })) None) None
 
 -- "the screen (P), the cursor image (4,096), and for a finished picture an output (P)"
 unfoldable pub lengths_good : ℕ → ℕ → ℕ → ℕ → Bool

@@ -1,41 +1,40 @@
 // The device: making, registers, run, picture, offscreen rectangle, fences.
 #![tactic(auto)]
 
-ghost use Rattle.std.specs.Prelude.{◌≡◌};
+ghost use Rattle.std.specs.Prelude.{◌≡◌, Err};
 ghost use Rattle.device.specs.Device.{defined_of};
 ghost use Rattle.adapter.specs.Picture.{picture_number, pictured, cursor_over, lengths_good, picture_of};
 ghost use Rattle.adapter.specs.Fence.{fence_of, fence_passed};
 
-use cursor::{Defined, IMAGE_WORDS};
-use picture::{Overlay, VisibleCursor};
+use cursor::IMAGE_WORDS;
+use picture::VisibleCursor;
 
 // The types and calls of the crates below: callers name this crate alone.
 pub use device::{
-    Condition, Device, Making, Plane, Registers, Sizes, condition_of, is_well_formed, make,
+    BadSizes, Condition, Device, Plane, Registers, Sizes, condition_of, is_well_formed, make,
     mode_fits,
 };
-pub use device_run::{Ran, RunAnswer, is_ready, run, run_number};
+pub use device_run::{Memories, Ran, RunError, is_ready, run, run_number};
 pub use offscreen::{Edges, offscreen};
-pub use register_read::{Value, read};
-pub use register_write::{WriteAnswer, Written, write, write_number};
+pub use register_read::{NoRegister, read};
+pub use register_write::{WriteError, write};
 
-#[derive(Clone, Copy)]
-pub enum PictureAnswer {
-    Taken,
+// Why a picture is refused.
+#[derive(Clone, Copy, PartialEq, Eq)]
+pub enum PictureError {
     WrongLength,
     TooLarge,
 }
 
-// ---- answer numbers
+impl From<PictureError> for u32 {
+    ghost from_gives = { λ e number. number ≡ picture_number (Err e) };
 
-// Rules out: 20 and 24 exchanged; 1 for a picture that was taken.
-pub fn picture_number(answer: PictureAnswer) -> u32
-    ensures { result ≡ picture_number answer }
-{
-    match answer {
-        PictureAnswer::Taken => 0,
-        PictureAnswer::WrongLength => 20,
-        PictureAnswer::TooLarge => 24,
+    // Rules out: 20 and 24 exchanged; 0 for a picture that is refused.
+    fn from(e: PictureError) -> u32 {
+        match e {
+            PictureError::WrongLength => 20,
+            PictureError::TooLarge => 24,
+        }
     }
 }
 
@@ -43,68 +42,51 @@ pub fn picture_number(answer: PictureAnswer) -> u32
 
 // The cursor that appears in a picture: shown, and its remembered id is that of the defined cursor.
 #[tactic(auto, unfolding(crate::specs::Picture::cursor_over))]
-fn cursor_over(d: Device) -> Overlay
+fn cursor_over(d: Device) -> Option<VisibleCursor>
     ensures { result ≡ cursor_over d (defined_of d) }
 {
-    let plane = d.plane;
-    let marks = d.marks;
-    let defined = marks.defined;
-    match defined {
-        Defined::Undefined => {
-            return Overlay::Nothing;
-        }
-        Defined::Cursor(shape) => {
-            if plane.shown {
-                if plane.id == shape.id {
-                    return Overlay::Cursor(VisibleCursor {
-                        shape,
-                        x: plane.x,
-                        y: plane.y,
-                    });
-                }
-            }
-            return Overlay::Nothing;
-        }
+    let shape = d.marks.defined?;
+    if !d.plane.shown || d.plane.id != shape.id {
+        return None;
     }
+    Some(VisibleCursor {
+        shape,
+        x: d.plane.x,
+        y: d.plane.y,
+    })
 }
 
 #[tactic(auto, unfolding(crate::specs::Picture::lengths_good))]
 fn lengths_good(pixels: usize, screen: usize, image: usize, output: usize) -> bool
     ensures { result ≡ lengths_good pixels screen image output }
 {
-    if screen != pixels {
-        return false;
-    }
-    if image != IMAGE_WORDS {
-        return false;
-    }
-    output == pixels
+    screen == pixels && image == IMAGE_WORDS && output == pixels
 }
 
-// The mode's pixels in the output, with the cursor over them.
+// The mode's pixels in the output, with the cursor over them. A picture that is refused leaves the output as it was.
 // Rules out: the bare screen always; a cursor at the registers' X and Y of now; output beyond the mode changed.
 #[tactic(auto, unfolding(crate::specs::Picture::picture_of))]
-pub fn picture(d: Device, screen: &[u32], image: &[u32], output: &mut [u32]) -> PictureAnswer
+pub fn picture(
+    d: Device,
+    screen: &[u32],
+    image: &[u32],
+    output: &mut [u32],
+) -> Result<(), PictureError>
     ensures { pictured result output.new ≡ picture_of d screen.now image.now output.old }
 {
-    let good = is_well_formed(d);
-    if !good {
-        return PictureAnswer::TooLarge;
+    if !is_well_formed(d) {
+        return Err(PictureError::TooLarge);
     }
-    let sizes = d.sizes;
-    let pixels = sizes.pixels as usize;
-    let lent = lengths_good(pixels, screen.len(), image.len(), output.len());
-    if !lent {
-        return PictureAnswer::WrongLength;
+    let pixels = d.sizes.pixels as usize;
+    if !lengths_good(pixels, screen.len(), image.len(), output.len()) {
+        return Err(PictureError::WrongLength);
     }
-    let g = d.registers;
-    let fits = mode_fits(d);
-    if !fits {
-        return PictureAnswer::TooLarge;
+    if !mode_fits(d) {
+        return Err(PictureError::TooLarge);
     }
-    let over = cursor_over(d);
-    picture::compose(screen, image, output, g.width, g.height, over);
-    PictureAnswer::Taken
+    let mode = device::frame_of(d).mode();
+    picture::compose(screen, image, output, mode, cursor_over(d));
+    Ok(())
 }
 
 // ---- fences
@@ -114,8 +96,7 @@ pub fn picture(d: Device, screen: &[u32], image: &[u32], output: &mut [u32]) -> 
 pub fn fence(d: Device) -> u32
     ensures { result ≡ fence_of d }
 {
-    let marks = d.marks;
-    marks.fence
+    d.marks.fence
 }
 
 // Whether a fence has passed: numbers wrap, and half of them lie behind the last.
@@ -123,7 +104,5 @@ pub fn fence(d: Device) -> u32
 pub fn fence_passed(d: Device, number: u32) -> bool
     ensures { result ≡ fence_passed (fence_of d) number }
 {
-    let marks = d.marks;
-    let gap = std::num::wrapping_sub_u32(marks.fence, number);
-    gap < 2147483648
+    d.marks.fence.wrapping_sub(number) < 0x8000_0000
 }

@@ -2,19 +2,13 @@
 -- out shows that it is not empty; that the right program meets it, `Caught.right_is_not_caught` and `history`'s theorems. Of demand 3 the impostors of
 -- document 01 are in `Caught`: a count that is one too many is `Caught.count_from_the_air`.
 -- Assumes nothing.
-use mathlib.Core.Path.{◌≡◌, refl, sym, ap, ◌∙◌}
-use mathlib.Core.Bool.{true, false}
+use Rattle.std.proofs.Common.{None, ◌≡◌, refl, sym, ap, ◌∙◌, true, false, List, [], ◌∷◌, ◌++◌, map, ℕ, arith, length, get_or, replicate}
 use mathlib.Core.Option.{Option, none, some}
-use mathlib.Core.List.{List, [], ◌∷◌, ◌++◌, map}
-use Prim.Native.Nat.{ℕ}
-use native.Mathlib.Omega.{arith}
-use lib.ListN.{length, get_or, replicate}
 use borrow.Table.Steps.{cases}
 use Rattle.geometry.specs.Pixels.{in_rect, tabulate, painted, painted_if}
 use Rattle.geometry.proofs.Tests.{not_both}
 use Rattle.pixel.specs.RasterOperation.{raster_op}
 use Rattle.raster.specs.Painters.{rows_fit, filled_in}
-use Rattle.cursor.specs.declared.Defined.TheVariants.{Undefined}
 use Rattle.execution.specs.declared.Cause.{Cause}
 use Rattle.execution.specs.declared.Cause.TheVariants.{NotOffered}
 use Rattle.execution.specs.declared.End.TheVariants.{Drained, Waiting, Fault}
@@ -121,7 +115,7 @@ module _ (s : Scene) (m : Machine) where
 
 -- a fill was counted, and the screen is as before: one pixel, colour 5
 pub unpainted : (cursor : List ℕ) (f : Option Cause) (z : Line Machine) → z.machine.screen ≡ 0 ∷ []
-    → Claimed (scene (record { width = 1; height = 1; rows = 1 }) [] false) (machine (record { fence = 0; defined = Undefined }) (0 ∷ []) cursor 0)
+    → Claimed (scene (record { width = 1; height = 1; rows = 1 }) [] false) (machine (record { fence = 0; defined = None }) (0 ∷ []) cursor 0)
     (answering (ran spent 1) (map append (2 ∷ 5 ∷ 0 ∷ 0 ∷ 1 ∷ 1 ∷ []) ++ run 1 ∷ [])) z f → ⊥
 unfolding straight unless turn_of taken counted fed count_all entry kind_of commands done screen_after reached rows_fit filled_in painted_if painted tabulate in_rect raster_op
 unpainted cursor f z old d =
@@ -131,7 +125,7 @@ unpainted cursor f z old d =
 
 -- a fill of two rows was counted, and painted the mode's alone: one column, and an offscreen row behind the mode's
 pub offscreen_unpainted : (cursor : List ℕ) (f : Option Cause) (z : Line Machine) → z.machine.screen ≡ 5 ∷ 0 ∷ []
-    → Claimed (scene (record { width = 1; height = 1; rows = 2 }) [] false) (machine (record { fence = 0; defined = Undefined }) (0 ∷ 0 ∷ []) cursor 0)
+    → Claimed (scene (record { width = 1; height = 1; rows = 2 }) [] false) (machine (record { fence = 0; defined = None }) (0 ∷ 0 ∷ []) cursor 0)
     (answering (ran spent 1) (map append (2 ∷ 5 ∷ 0 ∷ 0 ∷ 1 ∷ 2 ∷ []) ++ run 1 ∷ [])) z f → ⊥
 unfolding straight unless turn_of taken counted fed count_all entry kind_of commands done screen_after reached rows_fit filled_in painted_if painted tabulate in_rect raster_op
 offscreen_unpainted cursor f z old d =

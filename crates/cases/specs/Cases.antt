@@ -1,12 +1,11 @@
 -- Document 01, "Numbers to hold against it": "Cases 1 to 10 are proved about the definitions as a single list with one claim".
 -- The definitions are those that the contracts of `raster`, `pixel`, `command`, `run`, `cursor`, `register_read` and `adapter` cite.
-use Rattle.std.specs.Prelude.{ℕ, ◌≡◌, false, List, [], ◌∷◌, ◌++◌, map, ℤ, pos, nat_abs, replicate}
+use Rattle.std.specs.Prelude.{ℕ, ◌≡◌, false, List, [], ◌∷◌, ◌++◌, map, ℤ, pos, nat_abs, replicate, None}
 use Rattle.std.specs.Int.Signed.{lt_z}
 use Rattle.geometry.specs.declared.Rect.{Rect}
 use Rattle.pixel.specs.RasterOperation.{raster_op}
 use Rattle.pixel.specs.Blend.{red_of, green_of, blue_of, blend_pixel}
 use Rattle.raster.specs.Painters.{filled, copied}
-use Rattle.cursor.specs.declared.Defined.TheVariants.{Undefined}
 use Rattle.cursor.specs.Plane.{corner_of, offset_at, covers}
 use Rattle.execution.specs.Table.{turn_of}
 use Rattle.execution.specs.Claim.{answer_number}
@@ -61,7 +60,7 @@ abbrev pub answer_with : ℕ → List ℕ → ℕ
 answer_with budget waiting =
     answer_number
     (runs (turn_of smallest (table (scene (record { width = 4; height = 1; rows = 1 }) [] false))) budget
-    (record { words = waiting; machine = machine (record { fence = 0; defined = Undefined }) screen [] 0 })).answer
+    (record { words = waiting; machine = machine (record { fence = 0; defined = None }) screen [] 0 })).answer
 
 -- And one of budget 1: 2 where it executes a command, 1 where it waits for the rest of it.
 abbrev pub answer : List ℕ → ℕ

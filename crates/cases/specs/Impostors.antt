@@ -1,8 +1,7 @@
 -- Document 01, "How tight the promises are": "These impostors have to be caught". For each a list of operations with the answers that it gives, a device
 -- or a picture on which it breaks a claim or an equation that the code is held to.
-use Rattle.std.specs.Prelude.{ℕ, ◌+◌, ◌*◌, ◌≤◌, ◌≡◌, true, false, List, [], ◌∷◌, ◌++◌, length}
+use Rattle.std.specs.Prelude.{ℕ, ◌+◌, ◌*◌, ◌≤◌, ◌≡◌, true, false, List, [], ◌∷◌, ◌++◌, length, None, Some}
 use Rattle.std.proofs.Math.Option.{Option}
-use Rattle.cursor.specs.declared.Defined.TheVariants.{Undefined, Cursor}
 use Rattle.execution.specs.declared.Cause.{Cause}
 use Rattle.execution.specs.declared.End.TheVariants.{Drained}
 use Rattle.execution.specs.Straight.{Line}
@@ -98,7 +97,7 @@ device_from min fence stop = record {
   sizes = record { memory = 4 * (min + 2560); pixels = 4 };
   registers = set_state (set_mode fresh_registers 4 1) 0x90000000 true true;
   plane = record { shown = false; id = 0; x = 0; y = 0 };
-  marks = record { fence = fence; defined = Undefined };
+  marks = record { fence = fence; defined = None };
   busy = false;
   condition = Running (record { min = min; max = min + 2560; stop = stop });
 }
@@ -140,7 +139,7 @@ shows = record {
   sizes = record { memory = 10256; pixels = 1 };
   registers = set_mode fresh_registers 1 1;
   plane = record { shown = true; id = 1; x = 0; y = 0 };
-  marks = record { fence = 0; defined = Cursor (record { id = 1; hotx = 0; hoty = 0; w = 1; h = 1 }) };
+  marks = record { fence = 0; defined = Some (record { id = 1; hotx = 0; hoty = 0; w = 1; h = 1 }) };
   busy = false;
   condition = Idle;
 }

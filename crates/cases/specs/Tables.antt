@@ -1,33 +1,29 @@
 -- Document 01's tables in its own numbers, to be laid beside the paper: a number that is wrong in a definition and in the code alike shows here. Each is one
 -- list with one claim: the definitions that the contracts cite give these numbers.
-use Rattle.std.specs.Prelude.{ℕ, ◌-◌, ◌≡◌, true, false, List, [], ◌∷◌, ◌++◌, map, take}
+use Rattle.std.specs.Prelude.{ℕ, ◌-◌, ◌≡◌, true, false, List, [], ◌∷◌, ◌++◌, map, take, Some, None, Ok, Err}
 use Rattle.cursor.specs.declared.Shape.{Shape}
-use Rattle.cursor.specs.declared.Defined.TheVariants.{Undefined}
 use Rattle.execution.specs.declared.Cause.TheVariants.{NotOffered, BadOperand, TooLong, BadNext}
 use Rattle.execution.specs.declared.End.TheVariants.{Drained, Waiting, Fault}
 use Rattle.execution.specs.Straight.{end_number, cause_number}
 use Rattle.execution.specs.Claim.{spent, standing, ended, answer_number, appended, reply_number}
-use Rattle.command.specs.declared.Source.{Source}
+use Rattle.geometry.specs.declared.Point.{Point}
 use Rattle.command.specs.declared.Kind.{Kind}
 use Rattle.command.specs.declared.Kind.TheVariants.{Update, RectFill, RectCopy, RectRopFill, RectRopCopy, DefineAlphaCursor, UpdateVerbose, Fence, Escape, Foreign}
 use Rattle.command.specs.declared.Action.{Action}
 use Rattle.command.specs.declared.Action.TheVariants as A
 use Rattle.command.specs.Commands.{entry, size_by, kind_of}
-use Rattle.ring.specs.declared.AppendAnswer.TheVariants as Append
 use Rattle.ring.specs.Append.{append_number}
 use Rattle.device.specs.declared.Condition.TheVariants.{Running}
 use Rattle.device.specs.declared.Device.{Device}
 use Rattle.device.specs.Device.{fresh}
-use Rattle.device.specs.declared.Making.TheVariants as Making
 use Rattle.device.specs.Making.{creation}
-use Rattle.register_write.specs.declared.WriteAnswer.TheVariants as Write
+use Rattle.register_write.specs.declared.WriteError.TheVariants as Write
 use Rattle.register_write.specs.Answers.{write_number}
-use Rattle.register_read.specs.declared.Value.TheVariants as Value
 use Rattle.register_read.specs.Answers.{reading}
 use Rattle.register_read.specs.Registers.{read_of}
-use Rattle.device_run.specs.declared.RunAnswer.TheVariants as Run
-use Rattle.device_run.specs.Run.{run_number}
-use Rattle.adapter.specs.declared.PictureAnswer.TheVariants as Picture
+use Rattle.device_run.specs.declared.RunError.TheVariants as Run
+use Rattle.device_run.specs.Run.{run_number, run_error_number}
+use Rattle.adapter.specs.declared.PictureError.TheVariants as Picture
 use Rattle.adapter.specs.Picture.{picture_number}
 use Rattle.cases.specs.Cases.{Case, ◌is◌, rect, zeros, answer_with, answer}
 
@@ -114,7 +110,7 @@ set_device = record {
     cursoron = 3;
   };
   plane = record { shown = false; id = 0; x = 0; y = 0 };
-  marks = record { fence = 7; defined = Undefined };
+  marks = record { fence = 7; defined = None };
   busy = true;
   condition = Running (record { min = 4; max = 2564; stop = 4 });
 }
@@ -164,7 +160,7 @@ pub record Command : Type 0 where
   pub length : ℕ
   pub does : Action
 
-abbrev pub from : ℕ → ℕ → Source
+abbrev pub from : ℕ → ℕ → Point
 from x y = record { x = x; y = y }
 
 abbrev pub shape : ℕ → ℕ → ℕ → ℕ → ℕ → Shape
@@ -282,21 +278,22 @@ pub record NotOfferedAny (numbers : List ℕ) : Type 0 where
 unfoldable pub answer_numbers : List Case
 answer_numbers =
     -- register write: "taken", "lent length", "no such register / read-only / bad value / ring refused"
-    (map write_number (Write.Taken ∷ Write.WrongLength ∷ Write.NoRegister ∷ Write.NotWritable ∷ Write.BadValue ∷ Write.RingRefused ∷ [])
+    (map write_number
+    (Ok fresh_device ∷ Err Write.WrongLength ∷ Err Write.NoRegister ∷ Err Write.NotWritable ∷ Err Write.BadValue ∷ Err Write.RingRefused ∷ [])
     is 0 ∷ 20 ∷ 30 ∷ 31 ∷ 32 ∷ 33 ∷ [])
     -- register read: "taken", with the value; "Reading an absent register gives 30 and value 0."
-    ∷ ((reading (Value.Is 101)).answer ∷ (reading (Value.Is 101)).value ∷ (reading Value.NoRegister).answer ∷ (reading Value.NoRegister).value ∷ []
+    ∷ ((reading (Ok 101)).answer ∷ (reading (Ok 101)).value ∷ (reading (Err (record {}))).answer ∷ (reading (Err (record {}))).value ∷ []
     is 0 ∷ 101 ∷ 30 ∷ 0 ∷ [])
     -- making: "taken", "M or P"
-    ∷ ((creation (Making.Made fresh_device)).answer ∷ (creation Making.Refused).answer ∷ [] is 0 ∷ 34 ∷ [])
+    ∷ ((creation (Ok fresh_device)).answer ∷ (creation (Err (record {}))).answer ∷ [] is 0 ∷ 34 ∷ [])
     -- picture: "taken", "lent length", "width·height above P"
-    ∷ (map picture_number (Picture.Taken ∷ Picture.WrongLength ∷ Picture.TooLarge ∷ []) is 0 ∷ 20 ∷ 24 ∷ [])
+    ∷ (map picture_number (Ok tt ∷ Err Picture.WrongLength ∷ Err Picture.TooLarge ∷ []) is 0 ∷ 20 ∷ 24 ∷ [])
     -- run: "drained / waiting for the rest of a command / budget spent"
-    ∷ (map run_number (Run.Ended Drained ∷ Run.Ended Waiting ∷ Run.Spent ∷ []) is 0 ∷ 1 ∷ 2 ∷ [])
+    ∷ (map run_number (Some Drained ∷ Some Waiting ∷ None ∷ []) is 0 ∷ 1 ∷ 2 ∷ [])
     -- run: "command not offered", "bad operand", "command longer than the ring can hold", "NEXT_CMD unusable"
-    ∷ (map (λ c. run_number (Run.Ended (Fault c))) (NotOffered ∷ BadOperand ∷ TooLong ∷ BadNext ∷ []) is 10 ∷ 11 ∷ 12 ∷ 13 ∷ [])
+    ∷ (map (λ c. run_number (Some (Fault c))) (NotOffered ∷ BadOperand ∷ TooLong ∷ BadNext ∷ []) is 10 ∷ 11 ∷ 12 ∷ 13 ∷ [])
     -- run: "lent length", "disabled / not configured / fault already standing", "width·height above P"
-    ∷ (map run_number (Run.WrongLength ∷ Run.Disabled ∷ Run.NotConfigured ∷ Run.FaultStands ∷ Run.TooLarge ∷ []) is 20 ∷ 21 ∷ 22 ∷ 23 ∷ 24 ∷ [])
+    ∷ (map run_error_number (Run.WrongLength ∷ Run.Disabled ∷ Run.NotConfigured ∷ Run.FaultStands ∷ Run.TooLarge ∷ []) is 20 ∷ 21 ∷ 22 ∷ 23 ∷ 24 ∷ [])
     -- fault: the same four numbers
     ∷ (map cause_number (NotOffered ∷ BadOperand ∷ TooLong ∷ BadNext ∷ []) is 10 ∷ 11 ∷ 12 ∷ 13 ∷ [])
     -- a turn's end
@@ -305,5 +302,5 @@ answer_numbers =
     ∷ (map answer_number (spent ∷ standing ∷ ended Drained ∷ ended Waiting ∷ ended (Fault NotOffered) ∷ ended (Fault BadOperand) ∷ ended (Fault TooLong) ∷ [])
     is 2 ∷ 23 ∷ 0 ∷ 1 ∷ 10 ∷ 11 ∷ 12 ∷ [])
     -- append, which document 01's table does not have: 0 taken, 1 refused
-    ∷ (map append_number (Append.Taken ∷ Append.Refused ∷ []) ++ map reply_number (appended true ∷ appended false ∷ []) is 0 ∷ 1 ∷ 0 ∷ 1 ∷ [])
+    ∷ (map append_number (Ok tt ∷ Err (record {}) ∷ []) ++ map reply_number (appended true ∷ appended false ∷ []) is 0 ∷ 1 ∷ 0 ∷ 1 ∷ [])
     ∷ []

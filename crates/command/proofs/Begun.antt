@@ -1,24 +1,27 @@
 -- A turn looks at no word behind a command's head.
 -- Assumes nothing.
 use mathlib.Core.Path.{◌≡◌, refl, sym, ap, ap₂, ◌∙◌, subst₂}
-use mathlib.Core.Bool.{true, false}
+use mathlib.Core.Bool.{true, false, cond}
 use mathlib.Core.Option.{Option, none, some}
 use mathlib.Core.List.{List}
 use Prim.Native.Nat.{ℕ, ◌+◌, ◌≤◌, ◌<◌}
 use native.Mathlib.Omega.{arith}
 use lib.ListN.{length, get_or}
-use borrow.Author.Tests.{ne_eqb}
+use lib.Dec.{leb}
+use borrow.Author.Tests.{ne_eqb, leb-true, leb-false}
+use borrow.Table.Steps.{cases}
 use Rattle.geometry.proofs.Tabulate.{length-tabulate, get_or-tabulate}
 use Rattle.execution.specs.declared.Cause.TheVariants.{BadOperand, TooLong}
-use Rattle.execution.specs.declared.End.TheVariants.{Waiting, Fault}
+use Rattle.execution.specs.declared.End.TheVariants.{Drained, Waiting, Fault}
 use Rattle.execution.specs.Straight.{Turn, ends, exec}
 use Rattle.command.specs.declared.Action.{Action}
 use Rattle.command.specs.declared.Data.{Data}
 use Rattle.command.specs.declared.Data.TheVariants as D
-use Rattle.command.specs.Commands.{Known, entry, size_by, shape_at, kind_of, kind_in}
-use Rattle.command.specs.Findings.{finds_in, kind_with, begun}
+use Rattle.command.specs.declared.Kind.{Kind}
+use Rattle.command.specs.Commands.{Known, entry, size_by, kind_of, kind_in}
+use Rattle.command.specs.Findings.{findings, finds_in, kind_with, begun}
 use Rattle.command.proofs.Laws.{Begin, Alike, alike}
-use Rattle.command.proofs.Rules.{Ruled, foreign, no_head, bad_head, long, no_rest, bad, well, ruled, by_rule}
+use Rattle.command.proofs.Rules.{Ruled, foreign, no_head, bad_head, long, no_rest, bad, well, ruled, by_rule, turn_none}
 
 -- ---- words that begin alike are found alike
 
@@ -118,7 +121,59 @@ module _ (known : Known) (d : Data) (head : List ℕ) (n cap : ℕ) (there : 1 �
             sym (ap₂ (λ (n : ℕ) (a : Action). exec n (some a)) sized (rw kind f))
             ∙ found _ (well on enough (rw kind good) (omega (arith, sized)) (omega (arith, sized, length-begun d head n)) (rw kind e))
 
--- a cursor's shape, and an escape's size, are the head's
-pub shape_begun : (d : Data) (head : List ℕ) (n : ℕ) → 6 ≤ n → shape_at (begun d head n) 1 ≡ shape_at head 1
-shape_begun d head n h =
-    rw (word_begun d head n 1 (omega arith) (omega arith), word_begun d head n 2 (omega arith) (omega arith), word_begun d head n 3 (omega arith) (omega arith), word_begun d head n 4 (omega arith) (omega arith), word_begun d head n 5 (omega arith) (omega arith))
+-- ---- by the row of its kind
+
+-- what a turn finds in n words begun with a head, in a ring that carries cap, by the row of the head's kind: where all words of the head are there,
+-- and where some are. The code has its tests in this order.
+abbrev pub headed_by : Kind → List ℕ → ℕ → ℕ → Turn (Option Action)
+headed_by k head n cap =
+    cond ((entry k).head_good head)
+    (cond (leb (size_by k head) cap)
+    (cond (leb (size_by k head) n) (exec (size_by k head) (some ((entry k).action head))) (ends Waiting))
+    (ends (Fault TooLong)))
+    (ends (Fault BadOperand))
+
+unfoldable pub data_by : Kind → List ℕ → ℕ → ℕ → Turn (Option Action)
+data_by k head n cap = cond (leb (entry k).head n) (headed_by k head n cap) (ends Waiting)
+
+-- a command with data is offered, and refused by its head alone
+data_row : (d : Data) → ((entry (kind_with d)).offered ≡ true) × ((w : List ℕ) → (entry (kind_with d)).good tt w ≡ true)
+unfolding entry
+data_row D.Cursor = (refl, λ w. refl)
+data_row D.Escape = (refl, λ w. refl)
+
+module _ (d : Data) (head : List ℕ) (n cap : ℕ) where
+  pub data_none : n ≡ 0 → finds_in tt cap (begun d head n) ≡ ends Drained
+  data_none z = turn_none cap (findings tt) none _ (length-begun d head n ∙ z)
+
+  module _ (there : 1 ≤ n) where
+    abbrev k : Kind
+    k = kind_with d
+
+    offered : (entry k).offered ≡ true
+    offered = (data_row d).0
+
+    module _ (all : (entry k).head ≤ n) where
+      own : Alike (entry k) (begun d head n) head
+      own = alike k (begun d head n) head (λ i p q. word_begun d head n i p (omega arith))
+
+      is : size_by k (begun d head n) ≡ size_by k head
+      is = ap (λ m. (entry k).head + m) own.behind
+
+      headed : finds_in tt cap (begun d head n) ≡ headed_by k head n cap
+      headed =
+          cases ((entry k).head_good head)
+          (λ g. rw g
+          (cases (leb (size_by k head) cap)
+          (λ l. rw l
+          (cases (leb (size_by k head) n)
+          (λ m. rw m (sym (begun_well tt d head n cap there offered all (own.head_good ∙ g) _ is (leb-true _ _ l) (leb-true _ _ m) ((data_row d).1 _) _ own.action)))
+          (λ m. rw m (sym (begun_no_rest tt d head n cap there offered all (own.head_good ∙ g) _ is (leb-true _ _ l) (leb-false _ _ m))))))
+          (λ l. rw l (sym (begun_long tt d head n cap there offered all (own.head_good ∙ g) _ is (leb-false _ _ l))))))
+          (λ g. rw g (sym (begun_bad tt d head n cap there offered all (own.head_good ∙ g))))
+
+    pub data_said : finds_in tt cap (begun d head n) ≡ data_by k head n cap
+    unfolding data_by
+    data_said =
+        cases (leb (entry k).head n) (λ a. rw a (headed (leb-true _ _ a)))
+        (λ a. rw a (sym (begun_no_head tt d head n cap there offered (leb-false _ _ a))))

@@ -1,6 +1,6 @@
 -- What holds of document 01's rows: a turn looks at a command's own words, and the table keeps what the theorem of `execution` asks.
 -- Assumes nothing.
-use mathlib.Core.Path.{◌≡◌, refl, ap, ◌∙◌}
+use mathlib.Core.Path.{◌≡◌, ap, ◌∙◌}
 use mathlib.Core.List.{List}
 use Prim.Native.Nat.{ℕ, ◌+◌, ◌≤◌, ◌<◌}
 use native.Mathlib.Omega.{arith}
@@ -10,7 +10,6 @@ use Rattle.execution.specs.Table.{head_of, size_of, all_of, turn_of, Laws}
 use Rattle.execution.proofs.Tables.{laws_of}
 use Rattle.command.specs.declared.Action.{Action}
 use Rattle.command.specs.declared.Kind.{Kind}
-use Rattle.command.specs.declared.Kind.TheVariants.{Update, RectFill, RectCopy, RectRopFill, RectRopCopy, DefineAlphaCursor, UpdateVerbose, Fence, Escape, Foreign}
 use Rattle.command.specs.Commands.{Known, Entry, entry, size_by, kind_of, kind_in, commands}
 
 -- ---- a row looks at its head's words
@@ -28,34 +27,11 @@ Begin n w v = (i : ℕ) → 1 ≤ i → i < n → get_or w i 0 ≡ get_or v i 0
 
 pub alike : (k : Kind) (w v : List ℕ) → Begin (entry k).head w v → Alike (entry k) w v
 unfolding entry
-alike Update w v b = record { behind = refl; head_good = refl; good = λ s. refl; action = rw (b 1 (omega arith) (omega arith), b 2 (omega arith) (omega arith), b 3 (omega arith) (omega arith), b 4 (omega arith) (omega arith)) }
-alike RectFill w v b = record { behind = refl; head_good = refl; good = λ s. refl; action = rw (b 1 (omega arith) (omega arith), b 2 (omega arith) (omega arith), b 3 (omega arith) (omega arith), b 4 (omega arith) (omega arith), b 5 (omega arith) (omega arith)) }
-alike RectCopy w v b = record { behind = refl; head_good = refl; good = λ s. refl; action = rw (b 1 (omega arith) (omega arith), b 2 (omega arith) (omega arith), b 3 (omega arith) (omega arith), b 4 (omega arith) (omega arith), b 5 (omega arith) (omega arith), b 6 (omega arith) (omega arith)) }
-alike RectRopFill w v b = record { behind = refl; head_good = refl; good = λ s. rw (b 6 (omega arith) (omega arith)); action = rw (b 1 (omega arith) (omega arith), b 2 (omega arith) (omega arith), b 3 (omega arith) (omega arith), b 4 (omega arith) (omega arith), b 5 (omega arith) (omega arith), b 6 (omega arith) (omega arith)) }
-alike RectRopCopy w v b = record { behind = refl; head_good = refl; good = λ s. rw (b 7 (omega arith) (omega arith)); action = rw (b 1 (omega arith) (omega arith), b 2 (omega arith) (omega arith), b 3 (omega arith) (omega arith), b 4 (omega arith) (omega arith), b 5 (omega arith) (omega arith), b 6 (omega arith) (omega arith), b 7 (omega arith) (omega arith)) }
-alike DefineAlphaCursor w v b = record {
-  behind = rw (b 4 (omega arith) (omega arith), b 5 (omega arith) (omega arith));
-  head_good = rw (b 1 (omega arith) (omega arith), b 2 (omega arith) (omega arith), b 3 (omega arith) (omega arith), b 4 (omega arith) (omega arith), b 5 (omega arith) (omega arith));
-  good = λ s. refl;
-  action = rw (b 1 (omega arith) (omega arith), b 2 (omega arith) (omega arith), b 3 (omega arith) (omega arith), b 4 (omega arith) (omega arith), b 5 (omega arith) (omega arith));
-}
-alike UpdateVerbose w v b = record { behind = refl; head_good = refl; good = λ s. refl; action = rw (b 1 (omega arith) (omega arith), b 2 (omega arith) (omega arith), b 3 (omega arith) (omega arith), b 4 (omega arith) (omega arith)) }
-alike Fence w v b = record { behind = refl; head_good = refl; good = λ s. rw (b 1 (omega arith) (omega arith)); action = rw (b 1 (omega arith) (omega arith)) }
-alike Escape w v b = record { behind = rw (b 2 (omega arith) (omega arith)); head_good = refl; good = λ s. refl; action = refl }
-alike Foreign w v b = record { behind = refl; head_good = refl; good = λ s. refl; action = refl }
+alike k w v b = grind arith
 
 pub head_some : (k : Kind) → (1 ≤ (entry k).head) × ((entry k).head ≤ 10)
 unfolding entry
-head_some Update = (omega arith, omega arith)
-head_some RectFill = (omega arith, omega arith)
-head_some RectCopy = (omega arith, omega arith)
-head_some RectRopFill = (omega arith, omega arith)
-head_some RectRopCopy = (omega arith, omega arith)
-head_some DefineAlphaCursor = (omega arith, omega arith)
-head_some UpdateVerbose = (omega arith, omega arith)
-head_some Fence = (omega arith, omega arith)
-head_some Escape = (omega arith, omega arith)
-head_some Foreign = (omega arith, omega arith)
+head_some k = grind arith
 
 -- ---- the table by its rows
 

@@ -1,15 +1,15 @@
 -- What the front of a row of words says, for all words that may follow it.
 -- Assumes nothing.
 use mathlib.Core.Path.{◌≡◌, refl, sym, ap, ◌∙◌}
-use mathlib.Core.Bool.{true, false, true≢false}
+use mathlib.Core.Bool.{true, false, cond, true≢false}
 use mathlib.Core.Option.{Option, none, some}
 use mathlib.Core.List.{List, [], ◌∷◌, ◌++◌}
 use Prim.Native.Nat.{ℕ, ◌≤◌, ◌<◌}
 use native.Mathlib.Omega.{arith}
-use lib.Dec.{eqb}
+use lib.Dec.{eqb, leb}
 use lib.ListN.{length}
 use mathlib.Core.Logic.{◌≢◌}
-use borrow.Author.Tests.{eqb-true, eqb-false}
+use borrow.Author.Tests.{eqb-true, eqb-false, leb-true, leb-false}
 use borrow.Table.Steps.{cases}
 use Rattle.execution.specs.declared.Cause.{Cause}
 use Rattle.execution.specs.declared.Cause.TheVariants.{NotOffered, BadOperand}
@@ -18,12 +18,11 @@ use Rattle.execution.specs.Straight.{Turn, ends, exec}
 use Rattle.command.specs.declared.Action.{Action}
 use Rattle.command.specs.declared.Action.TheVariants as A
 use Rattle.command.specs.declared.Data.{Data}
-use Rattle.command.specs.declared.Data.TheVariants as D
 use Rattle.command.specs.declared.Kind.{Kind}
-use Rattle.command.specs.declared.Kind.TheVariants.{Update, RectFill, RectCopy, RectRopFill, RectRopCopy, DefineAlphaCursor, UpdateVerbose, Fence, Escape, Foreign}
+use Rattle.command.specs.declared.Kind.TheVariants.{Foreign}
 use Rattle.command.specs.declared.Step.{Step}
 use Rattle.command.specs.declared.Step.TheVariants.{Does, Short, Faults, Long}
-use Rattle.command.specs.Commands.{Known, entry, size_by, kind_of, kind_in}
+use Rattle.command.specs.Commands.{Known, Entry, entry, size_by, kind_of, kind_in}
 use Rattle.command.specs.Findings.{findings, finds_in, data_of, step_by, step_in, kind_with}
 use Rattle.command.proofs.Laws.{head_some, command_laws}
 use Rattle.command.proofs.Rules.{ruled, by_rule, turn_none}
@@ -48,29 +47,11 @@ pub record Fixed (k : Kind) : Type 0 where
 
 pub fixed : (k : Kind) → data_of k ≡ none → Fixed k
 unfolding entry
-fixed Update e = record { behind = λ w. refl; head_good = λ w. refl; keeps = λ w. tt; offered = λ n. refl }
-fixed RectFill e = record { behind = λ w. refl; head_good = λ w. refl; keeps = λ w. tt; offered = λ n. refl }
-fixed RectCopy e = record { behind = λ w. refl; head_good = λ w. refl; keeps = λ w. tt; offered = λ n. refl }
-fixed RectRopFill e = record { behind = λ w. refl; head_good = λ w. refl; keeps = λ w. tt; offered = λ n. refl }
-fixed RectRopCopy e = record { behind = λ w. refl; head_good = λ w. refl; keeps = λ w. tt; offered = λ n. refl }
-fixed DefineAlphaCursor e = absurd (true≢false cc)
-fixed UpdateVerbose e = record { behind = λ w. refl; head_good = λ w. refl; keeps = λ w. tt; offered = λ n. refl }
-fixed Fence e = record { behind = λ w. refl; head_good = λ w. refl; keeps = λ w. tt; offered = λ n. refl }
-fixed Escape e = absurd (true≢false cc)
-fixed Foreign e = record { behind = λ w. refl; head_good = λ w. refl; keeps = λ w. tt; offered = λ n. absurd (n refl) }
+fixed k e = grind arith
 
 -- a command with data behind its head, by its data
 pub data_kind : (k : Kind) (d : Data) → data_of k ≡ some d → k ≡ kind_with d
-data_kind Update d e = absurd (true≢false cc)
-data_kind RectFill d e = absurd (true≢false cc)
-data_kind RectCopy d e = absurd (true≢false cc)
-data_kind RectRopFill d e = absurd (true≢false cc)
-data_kind RectRopCopy d e = absurd (true≢false cc)
-data_kind DefineAlphaCursor d e = ap kind_with (let q : D.Cursor ≡ d = cc in q)
-data_kind UpdateVerbose d e = absurd (true≢false cc)
-data_kind Fence d e = absurd (true≢false cc)
-data_kind Escape d e = ap kind_with (let q : D.Escape ≡ d = cc in q)
-data_kind Foreign d e = absurd (true≢false cc)
+data_kind k d e = grind arith
 
 -- any other command has none
 pub no_data : (k : Kind) → ((d : Data) → k ≡ kind_with d → ⊥) → data_of k ≡ none
@@ -121,6 +102,32 @@ module _ (known : Known) (row : List ℕ) (k : Kind) (kind : kind_in row ≡ k) 
 pub step_long : (known : Known) (row : List ℕ) (d : Data) → data_of (kind_in row) ≡ some d → step_in known row ≡ Long d
 unfolding step_in
 step_long known row d e = rw e
+
+-- what a step says of a row that has words, by the data behind the command's head and the table's row of its kind
+unfoldable pub said_by : Option Data → Entry → List ℕ → Step
+said_by (some d) e row = Long d
+said_by none e row =
+    cond e.offered
+    (cond (leb e.head (length row)) (cond (e.good tt row) (Does (e.action row) e.head) (Faults BadOperand)) Short)
+    (Faults NotOffered)
+
+pub step_said : (row : List ℕ) → 1 ≤ length row → step_in tt row ≡ said_by (data_of (kind_in row)) (entry (kind_in row)) row
+unfolding said_by
+step_said row there = by (data_of (kind_in row)) refl
+  where
+    by : (o : Option Data) → data_of (kind_in row) ≡ o → step_in tt row ≡ said_by o (entry (kind_in row)) row
+    by (some d) q = step_long tt row d q
+    by none q =
+        let k = kind_in row in
+        cases (entry k).offered
+        (λ t. rw t
+        (cases (leb (entry k).head (length row))
+        (λ l. rw l
+        (cases ((entry k).good tt row)
+        (λ g. rw g (step_does tt row k refl q t _ refl (leb-true _ _ l) g))
+        (λ g. rw g (step_bad tt row k refl q t _ refl (leb-true _ _ l) g))))
+        (λ l. rw l (step_short tt row k refl q t (leb-false _ _ l)))))
+        (λ f. rw f (step_foreign tt row k refl q there f))
 
 -- ---- what a step says, whatever follows the row
 

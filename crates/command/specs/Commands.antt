@@ -4,7 +4,7 @@ use Rattle.geometry.specs.declared.Rect.{Rect}
 use Rattle.cursor.specs.declared.Shape.{Shape}
 use Rattle.cursor.specs.Plane.{shape_good}
 use Rattle.execution.specs.Table.{Table}
-use Rattle.command.specs.declared.Source.{Source}
+use Rattle.geometry.specs.declared.Point.{Point}
 use Rattle.command.specs.declared.Kind.{Kind}
 use Rattle.command.specs.declared.Kind.TheVariants.{Update, RectFill, RectCopy, RectRopFill, RectRopCopy, DefineAlphaCursor, UpdateVerbose, Fence, Escape, Foreign}
 use Rattle.command.specs.declared.Action.{Action}
@@ -32,7 +32,7 @@ pub record Entry : Type 0 where
 abbrev pub rect_at : List ℕ → ℕ → Rect
 rect_at w i = record { x = get_or w i 0; y = get_or w (i + 1) 0; w = get_or w (i + 2) 0; h = get_or w (i + 3) 0 }
 
-abbrev pub source_at : List ℕ → ℕ → Source
+abbrev pub source_at : List ℕ → ℕ → Point
 source_at w i = record { x = get_or w i 0; y = get_or w (i + 1) 0 }
 
 abbrev pub shape_at : List ℕ → ℕ → Shape

@@ -1,5 +1,5 @@
 -- A turn of document 01's table by itself: what it finds to execute. The code decides by this, before any machine is touched.
-use Rattle.std.specs.Prelude.{ℕ, cond, List, eqb, length, get_or, take}
+use Rattle.std.specs.Prelude.{ℕ, cond, List, eqb, length, get_or, take, Result, Ok, Err}
 use Rattle.std.proofs.Math.Option.{Option, none, some}
 use Rattle.geometry.specs.Pixels.{tabulate}
 use Rattle.execution.specs.declared.End.TheVariants.{Drained, Waiting, Fault}
@@ -12,8 +12,7 @@ use Rattle.command.specs.declared.Data.{Data}
 use Rattle.command.specs.declared.Data.TheVariants as D
 use Rattle.command.specs.declared.Step.{Step}
 use Rattle.command.specs.declared.Step.TheVariants.{Does, Short, Faults, Long}
-use Rattle.command.specs.declared.Finding.{Finding}
-use Rattle.command.specs.declared.Finding.TheVariants.{Ends, Executes}
+use Rattle.execution.specs.declared.End.{End}
 use Rattle.command.specs.Commands.{Known, entry, kind_in, commands}
 
 -- The table over machines that only keep the action executed last.
@@ -31,9 +30,9 @@ on_machine does s w (exec n none) = ends Drained
 on_machine does s w (exec n (some a)) = exec n (does a (take n w) s)
 
 -- What the code answers, as a turn.
-abbrev pub as_turn : Finding → Turn (Option Action)
-as_turn (Ends e) = ends e
-as_turn (Executes a n) = exec n (some a)
+abbrev pub as_turn : Result (Action × ℕ) End → Turn (Option Action)
+as_turn (Err e) = ends e
+as_turn (Ok done) = exec done.1 (some done.0)
 
 -- ---- a row of words
 

@@ -2,94 +2,60 @@
 // is `console_session`'s; here are the reads and the writes.
 #![tactic(auto)]
 
-ghost use Rattle.std.specs.Prelude.{◌≤◌, ◌≡◌, ◌&&◌, ltb, length, take};
-ghost use Rattle.device_run.specs.Run.{lent};
+ghost use Rattle.std.specs.Prelude.{ℕ, ◌≤◌, ◌≡◌, length, IfSome};
 ghost use Rattle.console_answers.specs.Put.{put_at};
+ghost use Rattle.console_session.specs.Console.{contents, SameMemories};
 ghost use Rattle.console_session.specs.Session.{state_of, unprinted, fed_all, ended, flushed, Within, Served};
 
-use console_session::{PIXELS, RING_WORDS, Session, Start};
+use console_session::{Memories, PIXELS, RING_WORDS, Session};
 use cursor::IMAGE_WORDS;
+use std::io;
 use std::io::{Read, Write};
 
-// A session, the bytes that were read for it, and whether there may be more.
-#[derive(Clone, Copy)]
-struct Step {
-    session: Session,
-    read: usize,
-    more: bool,
-}
+// The bytes of one read, and room for 26 bytes of text to each.
+const CHUNK: usize = 4096;
 
-// One read: how many bytes of the buffer it filled, 0 at the end of the input or where the read fails.
-fn fill<R: Read>(input: &mut R, buffer: &mut [u8]) -> usize
-    ensures { result ≤ length buffer.new }
+const TEXT: usize = 26 * CHUNK;
+
+// One read: how many bytes of the buffer it filled. None at the end of the input, which a read that fails is too.
+fn fill<R: Read>(input: &mut R, buffer: &mut [u8]) -> Option<usize>
+    ensures { IfSome result (λ n. n ≤ length buffer.new) }
 {
     match input.read(buffer) {
-        Ok(got) => got,
-        Err(_) => 0,
+        Ok(0) | Err(_) => None,
+        Ok(n) => Some(n),
     }
 }
 
-// Writes the first n bytes of out, and leaves none of them waiting: false where that fails.
-fn write_out<W: Write>(output: &mut W, out: &[u8], n: usize) -> bool
-    requires { n ≤ length out.now }
-{
-    match output.write_all(&out[0..n]) {
-        Ok(()) => output.flush().is_ok(),
-        Err(_) => false,
-    }
+// Writes a text, and leaves nothing of it waiting.
+fn write_out<W: Write>(output: &mut W, text: &[u8]) -> io::Result<()> {
+    output.write_all(text)?;
+    output.flush()
 }
 
-// Nothing read is the input's end; nobody reads what cannot be written.
-fn goes_on(sent: bool, n: usize) -> bool
-    ensures { result ≡ sent && ltb 0 n }
-{
-    if sent {
-        return 0 < n;
-    }
-    false
-}
-
-// One read, its lines, one write. Every byte read is fed: there is always room.
-fn turn<R: Read, W: Write>(
-    input: &mut R,
+// The lines of what one read gave, and one write. Every byte is fed: there is always room.
+#[tactic(auto, using(console_session::proofs::Feeding::within_fits))]
+fn turn<W: Write>(
     output: &mut W,
-    s: Session,
-    buffer: &mut [u8],
+    session: &mut Session,
+    chunk: &[u8],
     line: &mut [u8],
-    ring: &mut [u32],
-    framebuffer: &mut [u32],
-    screen: &mut [u32],
-    cursor: &mut [u32],
+    memories: &mut Memories<'_>,
     out: &mut [u8],
-) -> Step
-    requires { Within s (length buffer.old) (length line.old) (length out.old) }
-    ensures state { state_of result.session line.new (lent ring.new framebuffer.new screen.new cursor.new) out.new
-        ≡ flushed (fed_all (state_of s line.old (lent ring.old framebuffer.old screen.old cursor.old) out.old) (take result.read buffer.new)) }
-    ensures room { Within result.session (length buffer.old) (length line.old) (length out.old) }
+) -> io::Result<()>
+    requires { Within session.old (length chunk.now) (length line.old) (length out.old) }
+    ensures state { state_of session.new line.new (contents memories.new) out.new
+        ≡ flushed (fed_all (state_of session.old line.old (contents memories.old) out.old) chunk.now) }
+    ensures room { (n l o : ℕ) → Within session.old n l o → Within session.new n l o }
+    ensures same { SameMemories memories.new memories.old }
 {
-    let n = fill(input, buffer);
-    let fed = console_session::feed(
-        s,
-        &buffer[0..n],
-        line,
-        ring,
-        framebuffer,
-        screen,
-        cursor,
-        out,
-    );
-    let sent = write_out(output, out, fed.printed);
-    let session = console_session::flush(fed);
-    let more = goes_on(sent, n);
-    Step {
-        session,
-        read: n,
-        more,
-    }
+    let fed = console_session::feed(*session, chunk, line, memories, out);
+    *session = console_session::flush(fed);
+    write_out(output, &out[..fed.printed])
 }
 
-// Reads and feeds until the input ends. Nothing says that it does, and a proved loop has to: turns are counted down from a number that no
-// input uses up. No contract can say which bytes the reads gave; it says that there are such chunks.
+// Reads and feeds until the input ends, or nobody takes what is written. Nothing says that it does, and a proved loop has to: turns are
+// counted, up to a number that no input uses up. No contract can say which bytes the reads gave; it says that there are such chunks.
 // Rules out: a device or a memory that no input leads to; a line held that none leaves.
 fn serve<R: Read, W: Write>(
     input: &mut R,
@@ -97,95 +63,72 @@ fn serve<R: Read, W: Write>(
     s: Session,
     buffer: &mut [u8],
     line: &mut [u8],
-    ring: &mut [u32],
-    framebuffer: &mut [u32],
-    screen: &mut [u32],
-    cursor: &mut [u32],
+    memories: &mut Memories<'_>,
     out: &mut [u8],
 ) -> Session
     requires { Within s (length buffer.old) (length line.old) (length out.old) }
-    ensures served { Served (state_of s line.old (lent ring.old framebuffer.old screen.old cursor.old) out.old)
-        (state_of result line.new (lent ring.new framebuffer.new screen.new cursor.new) out.new) }
+    ensures served { Served (state_of s line.old (contents memories.old) out.old) (state_of result line.new (contents memories.new) out.new) }
     ensures room { Within result (length buffer.old) (length line.old) (length out.old) }
+    ensures same { SameMemories memories.new memories.old }
 {
     let mut session = s;
-    let mut turns = u64::MAX;
-    while turns > 0 {
-        let t = turn(
-            input,
-            output,
-            session,
-            buffer,
-            line,
-            ring,
-            framebuffer,
-            screen,
-            cursor,
-            out,
-        );
-        session = t.session;
-        turns = if t.more { turns - 1 } else { 0 };
+    for _ in 0..u64::MAX {
+        let Some(n) = fill(input, buffer) else {
+            break;
+        };
+        let sent = turn(output, &mut session, &buffer[..n], line, memories, out);
+        if sent.is_err() {
+            break;
+        }
     }
     session
 }
 
-// A last line without newline is answered, and its text written out.
+// A last line without newline is answered, and its text written out; nobody is left to tell where that fails.
 // Rules out: a last line that does nothing; a byte of out behind the text that changes.
+#[tactic(auto, using(console_session::proofs::Feeding::within_fits))]
 fn end<W: Write>(
     output: &mut W,
     s: Session,
     line: &[u8],
-    ring: &mut [u32],
-    framebuffer: &mut [u32],
-    screen: &mut [u32],
-    cursor: &mut [u32],
+    memories: &mut Memories<'_>,
     out: &mut [u8],
 )
     requires { Within s 1 (length line.now) (length out.old) }
-    ensures cursor_value { lent ring.new framebuffer.new screen.new cursor.new
-        ≡ (ended (state_of s line.now (lent ring.old framebuffer.old screen.old cursor.old) out.old)).console.lent }
-    ensures out_after { out.new
-        ≡ put_at out.old s.printed (ended (unprinted s line.now (lent ring.old framebuffer.old screen.old cursor.old))).printed }
+    ensures cursor_value { contents memories.new ≡ (ended (state_of s line.now (contents memories.old) out.old)).console.lent }
+    ensures out_after { out.new ≡ put_at out.old s.printed (ended (unprinted s line.now (contents memories.old))).printed }
+    ensures same { SameMemories memories.new memories.old }
 {
-    let ended = console_session::finish(s, line, ring, framebuffer, screen, cursor, out);
-    write_out(output, out, ended.printed);
+    let ended = console_session::finish(s, line, memories, out);
+    let _ = write_out(output, &out[..ended.printed]);
 }
 
-// M = 10,256 bytes, P = 1,024 pixels, a cursor image of 64 by 64; room for 26 bytes of text to each byte of a chunk.
+// M = 10,256 bytes, P = 1,024 pixels, a cursor image of 64 by 64.
 fn main(rt: HostRuntime) {
     let mut input = rt.stdin();
     let mut output = rt.stdout();
-    let mut buffer = [0u8; 4096];
+    let mut buffer = [0u8; CHUNK];
     let mut line = [0u8; 32];
+    let mut out = [0u8; TEXT];
     let mut ring = [0u32; RING_WORDS];
     let mut framebuffer = [0u32; PIXELS as usize];
     let mut screen = [0u32; PIXELS as usize];
     let mut cursor = [0u32; IMAGE_WORDS];
-    let mut out = [0u8; 106496];
-    let start = console_session::begin(&mut ring);
-    let Start::Ready(session) = start else {
-        return;
+    let session = console_session::begin(&mut ring);
+    let mut memories = Memories {
+        ring: &mut ring,
+        framebuffer: &mut framebuffer,
+        screen: &mut screen,
+        cursor: &mut cursor,
     };
-    let served = serve(
+    let session = serve(
         &mut input,
         &mut output,
         session,
         &mut buffer,
         &mut line,
-        &mut ring,
-        &mut framebuffer,
-        &mut screen,
-        &mut cursor,
+        &mut memories,
         &mut out,
     );
-    end(
-        &mut output,
-        served,
-        &line,
-        &mut ring,
-        &mut framebuffer,
-        &mut screen,
-        &mut cursor,
-        &mut out,
-    );
+    end(&mut output, session, &line, &mut memories, &mut out);
 }

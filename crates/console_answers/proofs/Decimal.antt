@@ -13,6 +13,7 @@ use Rattle.console_answers.specs.declared.ConsoleAnswer.{ConsoleAnswer}
 use Rattle.console_answers.specs.declared.ConsoleAnswer.TheVariants.{Written, Value, Ran, Shown, Full, Nothing, Bad}
 use Rattle.console_answers.specs.Text.{decimal_in, decimal_of, line_of, text_of}
 use Rattle.console_answers.specs.Parts.{numbers_of}
+use Rattle.console_answers.proofs.Putting.{puts_room}
 
 -- More places than a number has digits change nothing.
 more_places : (k n : ℕ) → n < 10 ^ suc k → decimal_in (suc (suc k)) n ≡ decimal_in (suc k) n
@@ -68,3 +69,6 @@ text_short (Shown a b) = omega (arith, numbers_short a b)
 text_short Full = omega arith
 text_short Bad = omega arith
 text_short Nothing = omega arith
+
+-- What room a number takes, and leaves.
+pub ruleset digits = (decimal_small, large_length, puts_room)

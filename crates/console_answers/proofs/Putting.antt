@@ -1,17 +1,19 @@
--- Text is put byte by byte and part by part.
+-- Text is put part by part.
 -- Assumes nothing.
-use mathlib.Core.Path.{◌≡◌, sym, ◌∙◌}
-use mathlib.Core.List.{List, [], ◌∷◌, ◌++◌, append-nil, append_assoc}
+use mathlib.Core.Path.{◌≡◌, refl, sym, ◌∙◌}
+use mathlib.Core.List.{List, [], ◌++◌, append-nil, append_assoc}
 use Prim.Native.Nat.{ℕ, ◌+◌, ◌≤◌, ◌<◌}
 use native.Mathlib.Nat.{add-zero, add_assoc}
-use native.Mathlib.Numerals.{add-one}
 use native.Mathlib.Omega.{arith}
 use lib.Dec.{leb}
-use lib.ListN.{length, take, drop, set, length-append, length-take, drop_of_length-le, take-append-drop}
-use lib.Seq.{append_snoc, length-take-le, set_split, take_all, take_at, drop_at, drop-drop}
+use lib.ListN.{length, take, drop, length-append, length-take, length-drop, drop_of_length-le, take-append-drop}
+use lib.Seq.{length-take-le, take_all, take_at, drop_at, drop-drop}
 use borrow.Author.Tests.{leb-true, leb-false}
 use borrow.Table.Steps.{cases}
+use Rattle.std.proofs.lemmas.Bool.Decides.{nat_tests}
+use Rattle.console_answers.specs.declared.Text.{Text}
 use Rattle.console_answers.specs.Put.{Put, put_at}
+use Rattle.console_answers.specs.Parts.{Puts}
 
 -- ---- a buffer up to the text's end, and behind it
 
@@ -41,9 +43,6 @@ module _ (before : List ℕ) (at : ℕ) (text : List ℕ) where
       let end : length before ≤ at + length text = omega arith in
       rw (nothing_behind beyond) (drop_of_length-le _ ends_before ∙ sym (drop_of_length-le before end)))
 
-pub put_one : (out : List ℕ) (at b : ℕ) → at < length out → Put out at (b ∷ []) (set out at b) (at + 1)
-put_one out at b h = record { bytes = rw (add-one, append_snoc) (set_split out at b h); ends = omega arith }
-
 pub put_none : (out : List ℕ) (at : ℕ) → Put out at [] out at
 put_none out at = record { bytes = rw (append-nil, add-zero) (sym (take-append-drop at out)); ends = omega arith }
 
@@ -56,6 +55,23 @@ put_then {a} {b} {c} {t} {u} {at} p q = record {
       (rw (append_assoc (take at a) t u, drop-drop, length-append, add_assoc));
   ends = omega (arith, length-append t u, p.ends, q.ends);
 }
+
+-- The same of a buffer with its text.
+pub puts_none : (a : Text) → Puts [] a a
+puts_none a = record { same = refl; put = put_none a.bytes.now a.len }
+
+pub puts_then : {a b c : Text} {t u : List ℕ} → Puts t a b → Puts u b c → Puts (t ++ u) a c
+puts_then p q = record { same = q.same ∙ p.same; put = put_then p.put q.put }
+
+-- Where it has room, the buffer has its length behind it.
+pub puts_room : {a b : Text} {t : List ℕ} → Puts t a b → a.len + length t ≤ length a.bytes.now
+    → (b.len ≡ a.len + length t) × (length b.bytes.now ≡ length a.bytes.now)
+puts_room {a} {b} {t} p h = (
+  p.put.ends,
+  rw (p.put.bytes, length-append, length-append, length-drop, length-take-le a.len a.bytes.now (omega arith)) (omega arith),
+)
+
+pub ruleset printed = (puts_none, put_none, nat_tests)
 
 -- ---- for callers
 

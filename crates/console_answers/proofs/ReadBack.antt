@@ -3,7 +3,7 @@
 use mathlib.Core.Path.{◌≡◌, refl}
 use mathlib.Core.Bool.{Bool, true, false, ◌&&◌}
 use mathlib.Core.List.{List, [], ◌∷◌, ◌++◌}
-use mathlib.Core.Option.{some}
+use Rattle.std.specs.Prelude.{Some}
 use Prim.Native.Nat.{ℕ, zero, suc, ◌+◌, ◌-◌, ◌*◌, ◌/◌, ◌%◌, ◌^◌, ◌≤◌, ◌<◌}
 use native.Mathlib.Nat.{pow-suc}
 use native.Mathlib.Omega.{arith}
@@ -57,7 +57,7 @@ reads_in (suc k) n h =
     let tens : n / 10 < 10 ^ suc k = omega (arith, pow-suc 10 (suc k)) in
     cases (ltb n 10) (λ t. rw t (one_digit n (ltb-true n 10 t))) (λ t. rw t (one_more_lem (decimal_in (suc k) (n / 10)) n (reads_in k (n / 10) tens)))
 
-pub read_back_lem : (n : ℕ) → n ≤ 4294967295 → number_of (decimal_of n) ≡ some n
+pub read_back_lem : (n : ℕ) → n ≤ 4294967295 → number_of (decimal_of n) ≡ Some n
 unfolding number_of decimal_of
 read_back_lem n h =
     let r = reads_in 9 n (omega arith) in

@@ -3,50 +3,45 @@
 use mathlib.Core.Path.{◌≡◌, refl}
 use mathlib.Core.Bool.{Bool, true, false, cond}
 use mathlib.Core.List.{List, [], ◌∷◌}
-use Prim.Native.Nat.{ℕ, zero, suc, ◌+◌, ◌-◌, ◌≤◌, ◌<◌}
-use native.Mathlib.Nat.{sub-zero}
+use Prim.Native.Nat.{ℕ, suc, ◌+◌, ◌-◌, ◌≤◌}
+use native.Mathlib.Nat.{sub-zero, sub_self}
 use native.Mathlib.Numerals.{add-one}
 use native.Mathlib.Omega.{arith}
 use lib.Dec.{eqb}
-use lib.ListN.{length, get_or, take, drop, length-drop}
+use lib.ListN.{length, take, drop, length-drop}
 use lib.Seq.{take_all}
-use borrow.Author.Tests.{ne_eqb}
+use borrow.Table.Steps.{cases}
+use Rattle.std.specs.Prelude.{Option, Some, None, MatchOption}
+use Rattle.std.specs.List.{position, position_from}
+use Rattle.std.proofs.lemmas.Iterator.Adapters.{position_from-zero}
 use Rattle.console_lines.specs.declared.Request.TheVariants.{Bad}
 use Rattle.console_lines.specs.Lines.{in_first, fields, request_in}
-use Rattle.console_lines.specs.Parts.{part, TabAt}
 
--- No tab stands before place r.
-abbrev pub NoTab : List ℕ → ℕ → Type 0
-NoTab l r = (k : ℕ) → k < r → get_or l k 0 ≡ 9 → ⊥
+-- What the first tab of a line, or its absence, says of its fields; r - i is its place.
+abbrev Parted : ℕ → List ℕ → Option ℕ → Type 0
+Parted i l o = MatchOption o (fields l ≡ l ∷ []) (λ r. (i ≤ r) × (fields l ≡ take (r - i) l ∷ fields (drop (suc (r - i)) l)))
 
-later : (b : ℕ) (bs : List ℕ) (r : ℕ) → NoTab (b ∷ bs) (suc r) → NoTab bs r
-later b bs r none k h = none (suc k) (omega arith)
+one_later : (b : ℕ) (bs : List ℕ) (i : ℕ) (o : Option ℕ) → Parted (i + 1) bs o
+    → MatchOption o (in_first b (fields bs) ≡ (b ∷ bs) ∷ [])
+    (λ r. (i ≤ r) × (in_first b (fields bs) ≡ take (r - i) (b ∷ bs) ∷ fields (drop (suc (r - i)) (b ∷ bs))))
+one_later b bs i None h = rw h
+one_later b bs i (Some r) h = let e : r - i ≡ suc (r - (i + 1)) = omega (arith, h.0) in (omega (arith, h.0), rw (h.1, e))
 
-to_tab : (l : List ℕ) (r : ℕ) → r < length l → NoTab l r → get_or l r 0 ≡ 9 → fields l ≡ take r l ∷ fields (drop (suc r) l)
+parted_from : (l : List ℕ) (i : ℕ) → Parted i l (position_from (λ b. eqb b 9) i l)
 unfolding fields
-to_tab [] r h none tab = absurd (omega arith)
-to_tab (b ∷ bs) zero h none tab = rw tab
-to_tab (b ∷ bs) (suc r) h none tab = rw (ne_eqb b 9 (none 0 (omega arith)), to_tab bs r (omega arith) (later b bs r none) tab)
+parted_from [] i = refl
+parted_from (b ∷ bs) i = cases (eqb b 9) (λ t. rw t (omega arith, rw sub_self))
+    (λ t. rw t (one_later b bs i _ (parted_from bs (i + 1))))
 
-whole : (l : List ℕ) → NoTab l (length l) → fields l ≡ l ∷ []
-unfolding fields
-whole [] none = refl
-whole (b ∷ bs) none = rw (ne_eqb b 9 (none 0 (omega arith)), whole bs (later b bs (length bs) none))
+parted : (l : List ℕ) → Parted 0 l (position (λ b. eqb b 9) l)
+parted l = rw (position_from-zero (λ b. eqb b 9) l) (parted_from l 0)
 
-rest : (l : List ℕ) (k : ℕ) → part l k (length l) ≡ drop k l
-rest l k = take_all (length l - k) (drop k l) (simp length-drop (omega arith))
+pub no_tab : (l : List ℕ) → None ≡ position (λ b. eqb b 9) l → fields l ≡ l ∷ []
+no_tab l e = rw (← e) at (parted l)
 
-pub tab_found : (l : List ℕ) (r : ℕ) → r < length l → NoTab l r → get_or l r 0 ≡ 9 → TabAt l r
-tab_found l r h none tab = record {
-  found = λ _. rw (rest l (r + 1), add-one, sub-zero) (to_tab l r h none tab);
-  absent = λ past. absurd (omega arith);
-}
-
-pub tab_absent : (l : List ℕ) (r : ℕ) → length l ≤ r → NoTab l r → TabAt l r
-tab_absent l r past none = record {
-  found = λ more. absurd (omega arith);
-  absent = λ _. whole l (λ k less. none k (omega arith));
-}
+pub first_tab : (l : List ℕ) (r : ℕ) → Some r ≡ position (λ b. eqb b 9) l
+    → fields l ≡ take r l ∷ fields (take (length l - (r + 1)) (drop (r + 1) l))
+first_tab l r e = rw (take_all (length l - (r + 1)) (drop (r + 1) l) (simp length-drop (omega arith)), add-one) (rw (← e, sub-zero) at (parted l)).1
 
 more_than_three : (c : Bool) (b : ℕ) (fs : List (List ℕ)) (w x y : List ℕ)
     → request_in (w ∷ x ∷ y ∷ cond c ([] ∷ fs) (in_first b fs)) ≡ Bad

@@ -3,7 +3,7 @@
 use mathlib.Core.Path.{◌≡◌, refl, sym, ◌∙◌}
 use mathlib.Core.Bool.{Bool, true, false, cond, and-false}
 use mathlib.Core.List.{List, [], ◌∷◌}
-use mathlib.Core.Option.{Option, none, some}
+use Rattle.std.specs.Prelude.{Option, Some, None}
 use Prim.Native.Nat.{ℕ, suc, ◌+◌, ◌≤◌, ◌<◌}
 use native.Mathlib.Omega.{arith}
 use lib.Dec.{eqb, leb}
@@ -35,14 +35,14 @@ spread_fields (b ∷ bs) =
     let h = spread_fields bs in
     let some_byte : 1 ≤ spread (fields bs) = omega arith in omega (arith, spread_one (eqb b 9) b (fields bs) some_byte)
 
-long_number : (f : List ℕ) → 10 < length f → number_of f ≡ none
+long_number : (f : List ℕ) → 10 < length f → number_of f ≡ None
 unfolding number_of
 long_number f h = simp (lt-leb (length f) 10 h, and-false)
 
 one_none : (word : List ℕ) (a : Option ℕ) → 3 < length word → with_one word a ≡ Bad
 unfolding with_one
-one_none word none h = refl
-one_none word (some n) h =
+one_none word None h = refl
+one_none word (Some n) h =
     rw (
       other_length word word_r (λ e. omega arith),
       other_length word word_p (λ e. omega arith),
@@ -52,14 +52,14 @@ one_none word (some n) h =
 
 two_none : (word : List ℕ) (a b : Option ℕ) → 1 < length word → with_two word a b ≡ Bad
 unfolding with_two
-two_none word none b h = refl
-two_none word (some m) none h = refl
-two_none word (some m) (some n) h = rw (other_length word word_w (λ e. omega arith), other_length word word_f (λ e. omega arith))
+two_none word None b h = refl
+two_none word (Some m) None h = refl
+two_none word (Some m) (Some n) h = rw (other_length word word_w (λ e. omega arith), other_length word word_f (λ e. omega arith))
 
-two_second : (word : List ℕ) (a : Option ℕ) → with_two word a none ≡ Bad
+two_second : (word : List ℕ) (a : Option ℕ) → with_two word a None ≡ Bad
 unfolding with_two
-two_second word none = refl
-two_second word (some m) = refl
+two_second word None = refl
+two_second word (Some m) = refl
 
 long_one : (word a : List ℕ) → 22 < length word + length a → with_one word (number_of a) ≡ Bad
 unfolding with_one

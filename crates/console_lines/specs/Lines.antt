@@ -1,6 +1,5 @@
 -- The console's lines: document 01, "The console program". A line is a list of bytes, without its newline.
-use Rattle.std.specs.Prelude.{ℕ, ◌+◌, ◌-◌, ◌*◌, Bool, true, false, cond, ◌&&◌, List, [], ◌∷◌, eqb, leb, length}
-use Rattle.std.proofs.Math.Option.{Option, none, some}
+use Rattle.std.specs.Prelude.{ℕ, ◌+◌, ◌-◌, ◌*◌, Bool, true, false, cond, ◌&&◌, List, [], ◌∷◌, eqb, leb, length, Option, Some, None}
 use Rattle.console_lines.specs.declared.Request.{Request}
 use Rattle.console_lines.specs.declared.Request.TheVariants.{Write, Read, Append, Pixel, Run, Screen, Bad}
 
@@ -24,7 +23,7 @@ decimal n (b ∷ bs) = decimal (n * 10 + (b - 48)) bs
 
 unfoldable pub number_of : List ℕ → Option ℕ
 number_of f =
-    cond (leb 1 (length f) && (leb (length f) 10 && (digits f && leb (decimal 0 f) 4294967295))) (some (decimal 0 f)) none
+    cond (leb 1 (length f) && (leb (length f) 10 && (digits f && leb (decimal 0 f) 4294967295))) (Some (decimal 0 f)) None
 
 -- Equal lists of bytes.
 unfoldable pub same : List ℕ → List ℕ → Bool
@@ -58,16 +57,16 @@ placed place request = cond (leb place 1023) request Bad
 
 -- "`r index`", "`p word`", "`run budget`", "`s place`"
 unfoldable pub with_one : List ℕ → Option ℕ → Request
-with_one word none = Bad
-with_one word (some n) =
+with_one word None = Bad
+with_one word (Some n) =
     cond (same word word_r) (Read n)
     (cond (same word word_p) (Append n) (cond (same word word_run) (Run n) (cond (same word word_s) (placed n (Screen n)) Bad)))
 
 -- "`w index value`", "`f place pixel`"
 unfoldable pub with_two : List ℕ → Option ℕ → Option ℕ → Request
-with_two word none b = Bad
-with_two word (some m) none = Bad
-with_two word (some m) (some n) = cond (same word word_w) (Write m n) (cond (same word word_f) (placed m (Pixel m n)) Bad)
+with_two word None b = Bad
+with_two word (Some m) None = Bad
+with_two word (Some m) (Some n) = cond (same word word_w) (Write m n) (cond (same word word_f) (placed m (Pixel m n)) Bad)
 
 -- "Any other line .. prints bad."
 unfoldable pub request_in : List (List ℕ) → Request

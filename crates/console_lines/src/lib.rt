@@ -1,12 +1,11 @@
 // A line of the console, taken apart: a request, or a bad line.
 #![tactic(auto)]
 
-ghost use Rattle.std.specs.Prelude.{◌≡◌, ℕ, ◌<◌, [], ◌∷◌, eqb};
-ghost use Rattle.console_lines.specs.Lines.{fields, number_of, same, word_run, with_one, with_two, request_in, request_of};
-ghost use Rattle.console_lines.specs.Parts.{told, TabAt};
+ghost use Rattle.std.specs.Prelude.{◌≡◌, ◌==◌, [], ◌∷◌, position, MatchOption};
+ghost use Rattle.console_lines.specs.Lines.{fields, number_of, with_one, with_two, request_of};
 
 // What a line asks for.
-#[derive(Clone, Copy)]
+#[derive(Clone, Copy, PartialEq, Eq)]
 pub enum Request {
     Write(u32, u32),
     Read(u32),
@@ -17,176 +16,87 @@ pub enum Request {
     Bad,
 }
 
-// The number of a field, or none.
-#[derive(Clone, Copy)]
-enum Number {
-    Is(u32),
-    Not,
-}
+// The largest place of a pixel.
+const LAST_PLACE: u32 = 1023;
 
-// ---- the words
-
-// The byte of a word of one byte, or 0.
-fn letter_of(word: &[u8]) -> u8
-    ensures { (b : ℕ) → 0 < b → same word.now (b ∷ []) ≡ eqb result b }
+// The number of a field: one to ten digits, at most 4294967295. `parse` takes a '+' and leading zeros past ten digits, so it is not the rule.
+fn number_of(field: &[u8]) -> Option<u32>
+    ensures { result ≡ number_of field.now }
 {
-    if word.len() == 1 {
-        return word[0];
+    if field.is_empty() || 10 < field.len() {
+        return None;
     }
-    0
-}
-
-fn is_run(word: &[u8]) -> bool
-    ensures { result ≡ same word.now word_run }
-{
-    if word.len() != 3 {
-        return false;
-    }
-    if word[0] != b'r' {
-        return false;
-    }
-    if word[1] != b'u' {
-        return false;
-    }
-    word[2] == b'n'
-}
-
-// ---- the numbers
-
-fn wide(x: u8) -> u64
-    ensures { result ≡ x }
-{
-    x as u64
-}
-
-fn number_of(f: &[u8]) -> Number
-    ensures { told result ≡ number_of f.now }
-{
-    let n = f.len();
-    if n < 1 {
-        return Number::Not;
-    }
-    if 10 < n {
-        return Number::Not;
-    }
-    let mut value: u64 = 0;
-    let mut i = 0;
-    while i < n {
-        let b = wide(f[i]);
-        if b < 48 {
-            return Number::Not;
+    let mut value = 0u64;
+    for b in field {
+        if !b.is_ascii_digit() {
+            return None;
         }
-        if 57 < b {
-            return Number::Not;
-        }
-        value = value * 10 + (b - 48);
-        i += 1;
+        value = value * 10 + u64::from(*b - b'0');
     }
-    if 4294967295 < value {
-        return Number::Not;
-    }
-    Number::Is(value as u32)
+    u32::try_from(value).ok()
 }
 
-// ---- the requests
-
-fn with_one(word: &[u8], a: &[u8]) -> Request
-    ensures { result ≡ with_one word.now (number_of a.now) }
+// The request of a word and one field's number.
+#[tactic(auto, using(crate::proofs::Words::words), unfolding(crate::specs::Lines::with_one))]
+fn with_one(word: &[u8], number: Option<u32>) -> Request
+    ensures { result ≡ with_one word.now number }
 {
-    let Number::Is(n) = number_of(a) else {
+    let Some(n) = number else {
         return Request::Bad;
     };
-    let letter = letter_of(word);
-    if letter == b'r' {
-        return Request::Read(n);
+    match word {
+        b"r" => Request::Read(n),
+        b"p" => Request::Append(n),
+        b"run" => Request::Run(n),
+        b"s" if n <= LAST_PLACE => Request::Screen(n),
+        _ => Request::Bad,
     }
-    if letter == b'p' {
-        return Request::Append(n);
-    }
-    let run = is_run(word);
-    if run {
-        return Request::Run(n);
-    }
-    if letter != b's' {
-        return Request::Bad;
-    }
-    if 1023 < n {
-        return Request::Bad;
-    }
-    Request::Screen(n)
 }
 
-fn with_two(word: &[u8], a: &[u8], b: &[u8]) -> Request
-    ensures { result ≡ with_two word.now (number_of a.now) (number_of b.now) }
+// The request of a word and two fields' numbers.
+#[tactic(auto, using(crate::proofs::Words::words), unfolding(crate::specs::Lines::with_two))]
+fn with_two(word: &[u8], first: Option<u32>, second: Option<u32>) -> Request
+    ensures { result ≡ with_two word.now first second }
 {
-    let Number::Is(m) = number_of(a) else {
+    let (Some(m), Some(n)) = (first, second) else {
         return Request::Bad;
     };
-    let Number::Is(n) = number_of(b) else {
-        return Request::Bad;
-    };
-    let letter = letter_of(word);
-    if letter == b'w' {
-        return Request::Write(m, n);
+    match word {
+        b"w" => Request::Write(m, n),
+        b"f" if m <= LAST_PLACE => Request::Pixel(m, n),
+        _ => Request::Bad,
     }
-    if letter != b'f' {
-        return Request::Bad;
-    }
-    if 1023 < m {
-        return Request::Bad;
-    }
-    Request::Pixel(m, n)
 }
 
-// ---- the fields
-
-// The place of the first tab, or the length.
-fn tab_in(line: &[u8]) -> usize
-    ensures { TabAt line.now result }
+// The place of a line's first tab.
+fn first_tab(line: &[u8]) -> Option<usize>
+    ensures { result ≡ position (λ b. b == 9) line.now }
 {
-    let mut i = 0;
-    while i < line.len() {
-        if line[i] == b'\t' {
-            return i;
-        }
-        i += 1;
-    }
-    i
+    line.iter().position(|b| *b == b'\t')
 }
 
-// A word and one field, with what follows it.
-fn after_one(word: &[u8], a: &[u8], rest: &[u8]) -> Request
-    ensures { result ≡ request_in (word.now ∷ a.now ∷ fields rest.now) }
+// The first field of a line, and what follows its tab.
+fn split_tab(line: &[u8]) -> Option<(&[u8], &[u8])>
+    ensures { MatchOption result (fields line.now ≡ line.now ∷ []) (λ p. fields line.now ≡ p.0.now ∷ fields p.1.now) }
 {
-    if tab_in(rest) < rest.len() {
-        return Request::Bad;
-    }
-    with_two(word, a, rest)
-}
-
-// A word, with what follows it.
-fn after_word(word: &[u8], rest: &[u8]) -> Request
-    ensures { result ≡ request_in (word.now ∷ fields rest.now) }
-{
-    let n = rest.len();
-    let tab = tab_in(rest);
-    if tab < n {
-        let from = tab + 1;
-        return after_one(word, &rest[0..tab], &rest[from..n]);
-    }
-    with_one(word, rest)
+    let tab = first_tab(line)?;
+    Some((&line[..tab], &line[tab + 1..]))
 }
 
 // The request of a line, its newline left out.
 // Rules out: a number of eleven digits or above 4294967295 taken; a place above 1,023 taken; a tab at the end overlooked.
+#[tactic(auto, using(crate::proofs::Fields::four_fields), unfolding(crate::specs::Lines::request_of, crate::specs::Lines::request_in))]
 pub fn request_of(line: &[u8]) -> Request
     ensures { result ≡ request_of line.now }
 {
-    let n = line.len();
-    let tab = tab_in(line);
-    if tab < n {
-        let from = tab + 1;
-        return after_word(&line[0..tab], &line[from..n]);
+    let Some((word, rest)) = split_tab(line) else {
+        return Request::Bad;
+    };
+    let Some((a, b)) = split_tab(rest) else {
+        return with_one(word, number_of(rest));
+    };
+    match split_tab(b) {
+        Some(_) => Request::Bad,
+        None => with_two(word, number_of(a), number_of(b)),
     }
-    Request::Bad
 }

@@ -7,18 +7,21 @@ use Prim.Native.Nat.{ℕ, ◌+◌, ◌-◌, ◌*◌, ◌/◌, ◌≤◌, ◌<◌
 use native.Mathlib.Numerals.{add-one}
 use native.Mathlib.Omega.{arith}
 use lib.Dec.{eqb, leb}
-use lib.ListN.{length, get_or, take}
+use lib.ListN.{length, get_or, take, length-take}
 use lib.Seq.{take-suc}
 use borrow.Author.Tests.{eq-eqb, eqb-true, leb-true, leb-false, le-leb, lt-leb}
 use borrow.Table.Steps.{cases}
+use Rattle.std.proofs.lemmas.Bool.Decides.{nat_tests}
 use Rattle.geometry.proofs.Tests.{both}
-use Rattle.device.specs.declared.Making.{Making}
-use Rattle.device.specs.declared.Making.TheVariants.{Made, Refused}
+use Rattle.std.specs.Prelude.{Result, Ok, Err}
+use Rattle.device.specs.declared.Device.{Device}
+use Rattle.device.specs.declared.BadSizes.{BadSizes}
 use Rattle.device.specs.Device.{fresh, sizes_good}
 use Rattle.device.specs.Making.{Creation, creation, made_of}
 use Rattle.console_session.specs.declared.Session.{Session}
 use Rattle.console_session.specs.Console.{memory, pixels}
 use Rattle.console_session.specs.Session.{State, fed, fed_all, flushed, fits, Within, Line, line_byte, line_fed}
+use Rattle.console_answers.proofs.Putting.{put_none}
 use Rattle.console_session.proofs.Behind.{fed_text, flushed_all}
 
 pub fed_behind : (s : State) (a : List ℕ) (b : ℕ) → fed_all s (a ++ (b ∷ [])) ≡ fed (fed_all s a) b
@@ -70,9 +73,6 @@ pub within_fits : (s : Session) (n line out : ℕ) → Within s n line out → f
 unfolding fits
 within_fits s n line out w = rw (eq-eqb line 32 w.whole, le-leb _ 32 w.held, le-leb _ _ w.room)
 
-pub within_none : {s : Session} {n line out : ℕ} → Within s n line out → Within s 0 line out
-within_none w = record { whole = w.whole; held = w.held; room = omega (arith, w.room) }
-
 pub room_test : (n printed out : ℕ) → printed ≤ out → leb n ((out - printed) / 26) ≡ leb (printed + 26 * n) out
 room_test n printed out h =
     cases (leb n ((out - printed) / 26))
@@ -81,9 +81,14 @@ room_test n printed out h =
     (λ t. let k : (out - printed) / 26 < n = leb-false _ _ t in
     let full : out < printed + 26 * n = omega arith in t ∙ sym (lt-leb _ _ full))
 
+pub ruleset room = (room_test, nat_tests)
+
+-- What a step of a session takes and leaves.
+pub ruleset steps = (fits_within, put_none, length-take, nat_tests)
+
 -- ---- the device
 
-pub console_made : (m : Making) → creation m ≡ made_of memory pixels → m ≡ Made (fresh memory pixels)
+pub console_made : (r : Result Device BadSizes) → creation r ≡ made_of memory pixels → r ≡ Ok (fresh memory pixels)
 unfolding made_of sizes_good
-console_made (Made d) e = let d-is = ap (λ (c : Creation). c.device) e in cc
-console_made Refused e = let z : ◌≡◌ {A = ℕ} 34 0 = ap (λ (c : Creation). c.answer) e in absurd (omega arith)
+console_made (Ok d) e = let made = ap (λ (c : Creation). c.device) e in cc
+console_made (Err x) e = let z : ◌≡◌ {A = ℕ} 34 0 = ap (λ (c : Creation). c.answer) e in absurd (omega arith)

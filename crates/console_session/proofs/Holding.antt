@@ -41,6 +41,8 @@ pub left_out : (line : List ℕ) (held b : ℕ) → 32 ≤ held → line_with he
 unfolding line_kept
 left_out line held b h = rw (le-ltb held 32 h)
 
+pub ruleset keeping = (kept_more, kept_all, set_behind, left_out)
+
 chosen_short : (t : Bool) (a : ConsoleAnswer) → length (cond t (text_of a) []) ≤ 26
 chosen_short true a = text_short a
 chosen_short false a = omega arith

@@ -2,3 +2,4 @@ pub mod Holding
 pub mod Behind
 pub mod Feeding
 pub mod Meeting
+pub mod Running

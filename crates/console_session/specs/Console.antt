@@ -1,5 +1,5 @@
 -- The console's state, and what a request does: document 01, "The console program".
-use Rattle.std.specs.Prelude.{ℕ, cond, List, eqb, get_or, set, replicate}
+use Rattle.std.specs.Prelude.{ℕ, ◌≡◌, cond, List, eqb, get_or, set, replicate}
 use Rattle.cursor.specs.Plane.{image_words}
 use Rattle.ring.specs.Append.{Appended, append_of}
 use Rattle.device.specs.declared.Device.{Device}
@@ -12,6 +12,7 @@ use Rattle.console_lines.specs.declared.Request.{Request}
 use Rattle.console_lines.specs.declared.Request.TheVariants.{Write, Read, Append, Pixel, Run, Screen, Bad}
 use Rattle.console_answers.specs.declared.ConsoleAnswer.{ConsoleAnswer}
 use Rattle.console_answers.specs.declared.ConsoleAnswer.TheVariants.{Written, Value, Ran, Shown, Full, Nothing, Bad as SaysBad}
+use Rattle.console_session.specs.declared.Memories.{Memories}
 use Rattle.console_session.specs.declared.Performed.{Performed as Done}
 
 -- The device and what is lent to it.
@@ -81,3 +82,16 @@ performed c Bad = record { console = c; answer = SaysBad }
 -- The same from what the code gives and leaves.
 abbrev pub performed_of : Done → Lent → Performed
 performed_of r l = record { console = console_of r.device l; answer = r.answer }
+
+-- ---- what is lent to the code
+
+-- What the memories of a call hold.
+abbrev pub contents : Memories → Lent
+contents m = lent m.ring.now m.framebuffer.now m.screen.now m.cursor.now
+
+-- They are the same memories, whatever they hold.
+pub record SameMemories (m n : Memories) : Type 0 where
+  pub ring : m.ring.ghost_name ≡ n.ring.ghost_name
+  pub framebuffer : m.framebuffer.ghost_name ≡ n.framebuffer.ghost_name
+  pub screen : m.screen.ghost_name ≡ n.screen.ghost_name
+  pub cursor : m.cursor.ghost_name ≡ n.cursor.ghost_name

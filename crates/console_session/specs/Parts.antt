@@ -1,15 +1,10 @@
 -- What the inner functions answer. Nothing here has to be believed.
 use Rattle.std.specs.Prelude.{ℕ, ◌≡◌, cond, List, eqb}
 use Rattle.ring.specs.Append.{Appended}
-use Rattle.device.specs.declared.Device.{Device}
 use Rattle.register_write.specs.Answers.{WriteOutcome}
 use Rattle.console_answers.specs.declared.ConsoleAnswer.{ConsoleAnswer}
 use Rattle.console_answers.specs.declared.ConsoleAnswer.TheVariants.{Written, Full, Nothing}
 use Rattle.console_session.specs.declared.Performed.{Performed as Done}
-
--- The device stays.
-abbrev pub keeping_of : Device → ConsoleAnswer → Done
-keeping_of d answer = record { device = d; answer = answer }
 
 -- The answer to a register write, and the device that it left.
 abbrev pub written_of : ℕ → WriteOutcome → Done

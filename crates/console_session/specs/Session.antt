@@ -7,8 +7,6 @@ use Rattle.device.specs.declared.Device.{Device}
 use Rattle.device_run.specs.Run.{Lent}
 use Rattle.console_session.specs.declared.Session.{Session}
 use Rattle.console_session.specs.Console.{Console, Performed, console_of, performed, start}
-use Rattle.console_session.specs.declared.Start.TheVariants.{Ready}
-use Rattle.console_session.specs.declared.Start.{Start}
 
 -- The console, the line so far, and the text printed.
 pub record State : Type 0 where
@@ -128,5 +126,5 @@ pub record Served (s t : State) : Type 0 where
   pub state : t ≡ served s chunks
 
 -- A session that begins.
-abbrev pub ready_with : Device → Start
-ready_with d = Ready (record { device = d; held = 0; printed = 0 })
+abbrev pub ready_with : Device → Session
+ready_with d = record { device = d; held = 0; printed = 0 }

@@ -1,7 +1,7 @@
 -- From integers to natural numbers: what is covered is the rectangle of the two spans, and where the cursor's pixels then are.
 -- Assumes nothing.
-use mathlib.Core.Path.{◌≡◌, sym, ap, ◌∙◌}
-use mathlib.Core.Bool.{Bool, true, false, not, ◌&&◌, and-false, true≢false}
+use mathlib.Core.Path.{◌≡◌, refl, sym, ap, ◌∙◌}
+use mathlib.Core.Bool.{true, false, ◌&&◌, and-false, true≢false}
 use mathlib.Core.Logic.{◌⊎◌, inl, inr, ⊎_elim}
 use mathlib.Core.List.{List, []}
 use Prim.Native.Nat.{ℕ, zero, suc, ◌+◌, ◌-◌, ◌*◌, ◌/◌, ◌%◌, ◌≤◌, ◌<◌, min}
@@ -11,7 +11,7 @@ use lib.Dec.{ltb, leb}
 use lib.IntN.{ℤ, pos, negsuc, nat_abs}
 use lib.Signed.{lt_z}
 use lib.ListN.{length, get_or}
-use borrow.Author.Tests.{ltb-true, ltb-false, leb-true, leb-false, lt-ltb, le-ltb, not-true, not-false}
+use borrow.Author.Tests.{ltb-true, ltb-false, leb-true, leb-false, lt-ltb, le-ltb}
 use borrow.Rule.Slice.PartMut.{mid_of}
 use borrow.Table.Steps.{cases}
 use Rattle.geometry.specs.Pixels.{place_of, within, in_rect}
@@ -26,6 +26,15 @@ use Rattle.cursor.specs.Plane.{corner_of, offset_at, covers, covered, cursor_pix
 use Rattle.cursor.specs.Spans.{span, at_of, skip_of, span_from, overlaid_visible}
 
 -- ---- one axis
+
+-- a corner before the picture, and one that is not, as its test says
+pub before : (z : ℤ) → lt_z z (pos 0) ≡ true → (at_of z ≡ 0) × (skip_of z ≡ nat_abs z)
+before (pos a) t = absurd (let b = ltb-true a 0 t in omega arith)
+before (negsuc b) t = (refl, refl)
+
+pub beyond : (z : ℤ) → lt_z z (pos 0) ≡ false → (at_of z ≡ nat_abs z) × (skip_of z ≡ 0)
+beyond (pos a) f = (refl, refl)
+beyond (negsuc b) f = absurd (true≢false cc)
 
 -- before the corner the cursor has no column, and from there on they count up
 offset_cases : {P : Type 0} (z : ℤ) (k : ℕ) → (k < at_of z → lt_z (offset_at z k) (pos 0) ≡ true → P)
@@ -166,27 +175,28 @@ module _ (width rows : ℕ) (s : Shape) (x y : ℕ) (image old : List ℕ) where
         offset_span (corner_of y s.hoty) s.h rows (k / width) (ltb-true (k / width) rows a.0) b.1,
       )
 
-  -- ---- the overlay, with what the code has: whether it fits, and the two spans
+  -- ---- the overlay: refused, and by the spans
 
-  module _ (fits : Bool) (is : fits ≡ overlay_fits width rows s (length old) (length image)) where
-    pub overlay_refused : not fits ≡ true → old ≡ overlaid width rows s x y image old
-    unfolding overlaid
-    overlay_refused t = sym (refused_if _ _ _ old (sym is ∙ not-true fits t))
+  pub overlay_refused : overlay_fits width rows s (length old) (length image) ≡ false → old ≡ overlaid width rows s x y image old
+  unfolding overlaid
+  overlay_refused misfit = sym (refused_if _ _ _ old misfit)
 
-    module _ (t : not fits ≡ false) (c l : Span) (is_c : c ≡ columns) (is-l : l ≡ lines) where
-      known : Fit width rows s (length old) (length image)
-      known = overlay_fit width rows s (length old) (length image) (sym is ∙ not-false fits t)
+  module _ (fits : overlay_fits width rows s (length old) (length image) ≡ true) where
+    fit : Fit width rows s (length old) (length image)
+    fit = overlay_fit width rows s (length old) (length image) fits
 
-      pub visible_inside : Inside width c.at l.at c.n l.n (length old) × Inside s.w c.skip l.skip c.n l.n (length image)
-      visible_inside =
-          let u = span_fits (corner_of x s.hotx) s.w width in
-          let v = span_fits (corner_of y s.hoty) s.h rows in
-          rw (is_c, is-l) (inside width rows _ _ _ _ _ u.0 v.0 known.long, inside s.w s.h _ _ _ _ _ u.1 v.1 known.whole)
+    -- the two spans lie in the picture and in the image
+    pub in_picture : Inside width columns.at lines.at columns.n lines.n (length old)
+    in_picture =
+        inside width rows _ _ _ _ _ (span_fits (corner_of x s.hotx) s.w width).0 (span_fits (corner_of y s.hoty) s.h rows).0 fit.long
 
-      pub overlay_is_visible : (new : List ℕ) → new ≡ overlaid_visible width s.w c l image old → new ≡ overlaid width rows s x y image old
-      unfolding overlaid overlaid_visible
-      overlay_is_visible new e =
-          e ∙ rw (is_c, is-l)
-          (painted_region _ _ _ old (λ k h. sym (covered_rect known.wide k))
-          ∙ painted_same _ _ _ old (λ k h o. ap (λ (p : ℕ). blend_pixel p (get_or old k 0)) (sym (covered_pixel known.wide k o)))
-          ∙ sym (painted_if_lem _ _ _ old (sym is ∙ not-false fits t)))
+    pub in_image : Inside s.w columns.skip lines.skip columns.n lines.n (length image)
+    in_image =
+        inside s.w s.h _ _ _ _ _ (span_fits (corner_of x s.hotx) s.w width).1 (span_fits (corner_of y s.hoty) s.h rows).1 fit.whole
+
+    pub overlay_by_spans : overlaid_visible width s.w columns lines image old ≡ overlaid width rows s x y image old
+    unfolding overlaid overlaid_visible
+    overlay_by_spans =
+        painted_region _ _ _ old (λ k h. sym (covered_rect fit.wide k))
+        ∙ painted_same _ _ _ old (λ k h o. ap (λ (p : ℕ). blend_pixel p (get_or old k 0)) (sym (covered_pixel fit.wide k o)))
+        ∙ sym (painted_if_lem _ _ _ old fits)

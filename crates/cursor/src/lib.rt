@@ -8,6 +8,8 @@ ghost use Rattle.pixel.specs.Blend.{blend_pixel};
 ghost use Rattle.cursor.specs.Plane.{shape_good, signed, corner_of, overlay_fits, overlaid};
 ghost use Rattle.cursor.specs.Spans.{span_at, span_from, overlaid_visible};
 
+use geometry::{Grid, Point};
+
 // The largest side of a cursor.
 pub const MAX_SIDE: u32 = 64;
 
@@ -15,7 +17,7 @@ pub const MAX_SIDE: u32 = 64;
 pub const IMAGE_WORDS: usize = 4096;
 
 // A defined cursor: its id, hotspot and size.
-#[derive(Clone, Copy)]
+#[derive(Clone, Copy, PartialEq, Eq, Default)]
 pub struct Shape {
     pub id: u32,
     pub hotx: u32,
@@ -24,15 +26,8 @@ pub struct Shape {
     pub h: u32,
 }
 
-// The cursor that is defined, if one is.
-#[derive(Clone, Copy)]
-pub enum Defined {
-    Undefined,
-    Cursor(Shape),
-}
-
 // The part of a cursor's columns or rows that lies in the picture: n of them, from column at of the picture and column skip of the cursor on.
-#[derive(Clone, Copy)]
+#[derive(Clone, Copy, Default)]
 struct Span {
     at: u32,
     skip: u32,
@@ -45,22 +40,10 @@ struct Span {
 pub fn shape_good(shape: Shape) -> bool
     ensures { result ≡ shape_good shape }
 {
-    if shape.w < 1 {
-        return false;
-    }
-    if MAX_SIDE < shape.w {
-        return false;
-    }
-    if shape.h < 1 {
-        return false;
-    }
-    if MAX_SIDE < shape.h {
-        return false;
-    }
-    if shape.w <= shape.hotx {
-        return false;
-    }
-    shape.hoty < shape.h
+    (1..=MAX_SIDE).contains(&shape.w)
+        && (1..=MAX_SIDE).contains(&shape.h)
+        && shape.hotx < shape.w
+        && shape.hoty < shape.h
 }
 
 // ---- where the cursor stands
@@ -69,143 +52,105 @@ pub fn shape_good(shape: Shape) -> bool
 fn signed_of(x: u32) -> i64
     ensures { result ≡ signed x }
 {
-    if x < 2147483648 {
-        return x as i64;
-    }
-    (x as i64) - 4294967296
+    i64::from(x.cast_signed())
 }
 
 fn corner_of(position: u32, hot: u32) -> i64
     ensures { result ≡ corner_of position hot }
 {
-    signed_of(position) - (hot as i64)
+    signed_of(position) - i64::from(hot)
 }
 
 // Of the cursor's columns from skip to below size, those that fit from column at of the picture to below limit.
 fn span_at(at: u64, skip: u64, size: u32, limit: u32) -> Span
     ensures { result ≡ span_at at skip size limit }
 {
-    if limit as u64 <= at {
-        return Span {
-            at: 0,
-            skip: 0,
-            n: 0,
-        };
+    if u64::from(limit) <= at || u64::from(size) <= skip {
+        return Span::default();
     }
-    if size as u64 <= skip {
-        return Span {
-            at: 0,
-            skip: 0,
-            n: 0,
-        };
-    }
-    let place = at as u32;
-    let from = skip as u32;
-    let there = size - from;
-    let room = limit - place;
-    if there <= room {
-        return Span {
-            at: place,
-            skip: from,
-            n: there,
-        };
-    }
+    let at = at as u32;
+    let skip = skip as u32;
     Span {
-        at: place,
-        skip: from,
-        n: room,
+        at,
+        skip,
+        n: (size - skip).min(limit - at),
     }
 }
 
 // Of size columns from the corner on, those from 0 to below limit.
-#[tactic(auto, using(crate::proofs::Integers::before, crate::proofs::Integers::beyond), unfolding(crate::specs::Spans::span_from))]
+#[tactic(auto, using(crate::proofs::Spans::before, crate::proofs::Spans::beyond), unfolding(crate::specs::Spans::span_from))]
 fn span_of(position: u32, hot: u32, size: u32, limit: u32) -> Span
     ensures { result ≡ span_from (corner_of position hot) size limit }
 {
     let corner = corner_of(position, hot);
+    let distance = corner.unsigned_abs();
     if corner < 0 {
-        return span_at(0, (0 - corner) as u64, size, limit);
+        span_at(0, distance, size, limit)
+    } else {
+        span_at(distance, 0, size, limit)
     }
-    span_at(corner as u64, 0, size, limit)
 }
 
 // ---- its pixels
 
-// One row: each cursor pixel blended over the picture's.
+// One row: each cursor pixel blended over the picture's. By an index, since an iterator that lends pixels to write says nothing to a proof.
+#[tactic(auto, using(geometry::proofs::Tabulate::is_tabulate))]
 fn blend_row(row: &mut [u32], pixels: &[u32])
     requires { length row.old ≤ length pixels.now }
     ensures { row.new ≡ tabulate (length row.old) (λ i. blend_pixel (get_or pixels.now i 0) (get_or row.old i 0)) }
 {
-    let mut i = 0;
-    while i < row.len() {
+    for i in 0..row.len() {
         row[i] = pixel::blend(pixels[i], row[i]);
-        i += 1;
     }
 }
 
 // The columns and rows of a cursor of w columns that are visible.
 fn overlay_visible(
     picture: &mut [u32],
-    width: u32,
+    width: usize,
     image: &[u32],
-    w: u32,
+    w: usize,
     columns: Span,
     lines: Span,
 )
-    requires inside { Inside width columns.at lines.at columns.n lines.n (length picture.old) }
-    requires inside_2 { Inside w columns.skip lines.skip columns.n lines.n (length image.now) }
+    requires in_picture { Inside width columns.at lines.at columns.n lines.n (length picture.old) }
+    requires in_image { Inside w columns.skip lines.skip columns.n lines.n (length image.now) }
     ensures { picture.new ≡ overlaid_visible width w columns lines image.now picture.old }
 {
-    let step = width as usize;
-    let pitch = w as usize;
-    let x = columns.at as usize;
-    let y = lines.at as usize;
-    let sx = columns.skip as usize;
-    let sy = lines.skip as usize;
     let n = columns.n as usize;
-    let h = lines.n as usize;
-    let mut j = 0;
-    while j < h {
-        let at = (y + j) * step + x;
-        let past = at + n;
-        let from = (sy + j) * pitch + sx;
-        let end = from + n;
-        blend_row(&mut picture[at..past], &image[from..end]);
-        j += 1;
+    for j in 0..lines.n as usize {
+        let at = (lines.at as usize + j) * width + columns.at as usize;
+        let from = (lines.skip as usize + j) * w + columns.skip as usize;
+        blend_row(&mut picture[at..at + n], &image[from..from + n]);
     }
 }
 
 #[tactic(auto, unfolding(crate::specs::Plane::overlay_fits))]
-fn overlay_fits(width: u32, rows: u32, shape: Shape, pixels: usize, words: usize) -> bool
-    ensures { result ≡ overlay_fits width rows shape pixels words }
+fn overlay_fits(grid: Grid, shape: Shape, pixels: usize, words: usize) -> bool
+    ensures { result ≡ overlay_fits grid.width grid.rows shape pixels words }
 {
-    if width <= 0 {
-        return false;
-    }
-    if pixels < width as usize * rows as usize {
-        return false;
-    }
-    shape.w as usize * shape.h as usize <= words
+    0 < grid.width
+        && grid.width as usize * grid.rows as usize <= pixels
+        && shape.w as usize * shape.h as usize <= words
 }
 
-// The cursor's pixels over a picture of rows of width pixels, the hotspot at position (x, y).
+// The cursor's pixels over a picture in a grid, the hotspot at a point.
 // Rules out: a hotspot that is added; a cursor half outside that is dropped, or that comes in again at the other edge.
-pub fn overlay(
-    picture: &mut [u32],
-    width: u32,
-    rows: u32,
-    image: &[u32],
-    shape: Shape,
-    x: u32,
-    y: u32,
-)
-    ensures { picture.new ≡ overlaid width rows shape x y image.now picture.old }
+#[tactic(auto, using(crate::proofs::Spans::overlay_refused, crate::proofs::Spans::overlay_by_spans))]
+pub fn overlay(picture: &mut [u32], grid: Grid, image: &[u32], shape: Shape, at: Point)
+    ensures { picture.new ≡ overlaid grid.width grid.rows shape at.x at.y image.now picture.old }
 {
-    let fits = overlay_fits(width, rows, shape, picture.len(), image.len());
-    if !fits {
+    if !overlay_fits(grid, shape, picture.len(), image.len()) {
         return;
     }
-    let columns = span_of(x, shape.hotx, shape.w, width);
-    let lines = span_of(y, shape.hoty, shape.h, rows);
-    overlay_visible(picture, width, image, shape.w, columns, lines);
+    let columns = span_of(at.x, shape.hotx, shape.w, grid.width);
+    let lines = span_of(at.y, shape.hoty, shape.h, grid.rows);
+    overlay_visible(
+        picture,
+        grid.width as usize,
+        image,
+        shape.w as usize,
+        columns,
+        lines,
+    );
 }

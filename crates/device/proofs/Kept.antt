@@ -2,7 +2,7 @@
 -- Assumes nothing.
 use mathlib.Core.Path.{◌≡◌}
 use mathlib.Core.Bool.{true, false, true≢false}
-use mathlib.Core.Option.{Option, none, some}
+use Rattle.std.specs.Prelude.{Option, None, Some}
 use mathlib.Core.Logic.{◌↔◌}
 use Prim.Native.Nat.{ℕ}
 use native.Mathlib.Omega.{arith}
@@ -48,14 +48,14 @@ unfolding well_formed mode_good condition_good defined_good
 fresh_well_formed memory pixels e = rw e
 
 -- what is made is the fresh device, and well-formed
-pub make_well_formed : (memory pixels : ℕ) (d : Device) → (made_of memory pixels).device ≡ some d → (well_formed d ≡ true) × (d ≡ fresh memory pixels)
+pub make_well_formed : (memory pixels : ℕ) (d : Device) → (made_of memory pixels).device ≡ Some d → (well_formed d ≡ true) × (d ≡ fresh memory pixels)
 unfolding made_of
 make_well_formed memory pixels d e =
     cases (sizes_good memory pixels)
     (λ t.
-    let m : some (fresh memory pixels) ≡ some d = rw t at e in
+    let m : Some (fresh memory pixels) ≡ Some d = rw t at e in
     let eq : fresh memory pixels ≡ d = cc in (rw eq at (fresh_well_formed memory pixels t), cc))
-    (λ f. let m : ◌≡◌ {A = Option Device} none (some d) = rw f at e in absurd (true≢false cc))
+    (λ f. let m : ◌≡◌ {A = Option Device} None (Some d) = rw f at e in absurd (true≢false cc))
 
 -- 34 exactly when M or P is none of those allowed
 pub make_refused : (memory pixels : ℕ) → ((made_of memory pixels).answer ≡ 34) ↔ (sizes_good memory pixels ≡ false)

@@ -1,14 +1,13 @@
 -- The device: document 01, "What is lent". Fields are the code's; here are the fresh device, the test of a well-formed one, and the
 -- device with one part changed.
-use Rattle.std.specs.Prelude.{ℕ, ◌*◌, ◌/◌, ◌%◌, Bool, true, false, cond, not, ◌&&◌, eqb, leb}
+use Rattle.std.specs.Prelude.{ℕ, ◌*◌, ◌/◌, ◌%◌, Bool, true, false, cond, not, ◌&&◌, eqb, leb, Option, None, Some}
+use Rattle.cursor.specs.declared.Shape.{Shape}
 use Rattle.geometry.specs.declared.Frame.{Frame}
 use Rattle.raster.specs.Painters as Painters
 use Rattle.ring.specs.Waiting.{placed}
 use Rattle.cursor.specs.Plane.{shape_good}
 use Rattle.device.specs.declared.Registers.{Registers}
 use Rattle.device.specs.declared.Plane.{Plane}
-use Rattle.cursor.specs.declared.Defined.{Defined}
-use Rattle.cursor.specs.declared.Defined.TheVariants.{Undefined, Cursor}
 use Rattle.device.specs.declared.Condition.{Condition}
 use Rattle.device.specs.declared.Condition.TheVariants.{Idle, Running, Faulted}
 use Rattle.device.specs.declared.Device.{Device}
@@ -42,7 +41,7 @@ enabled_of d = d.registers.enable
 abbrev pub configured_of : Device → Bool
 configured_of d = d.registers.config
 
-abbrev pub defined_of : Device → Defined
+abbrev pub defined_of : Device → Option Shape
 defined_of d = d.marks.defined
 
 abbrev pub condition_of : Device → Condition
@@ -84,7 +83,7 @@ fresh memory pixels = record {
   sizes = record { memory = memory; pixels = pixels };
   registers = fresh_registers;
   plane = record { shown = false; id = 0; x = 0; y = 0 };
-  marks = record { fence = 0; defined = Undefined };
+  marks = record { fence = 0; defined = None };
   busy = false;
   condition = Idle;
 }
@@ -113,10 +112,10 @@ condition_good memory config (Running g) = cond config (placed g (memory / 4)) f
 condition_good memory config (Faulted c) = true
 
 -- The defined cursor is one that a command may define.
-unfoldable pub defined_good : Defined → Bool
+unfoldable pub defined_good : Option Shape → Bool
 unfolding shape_good
-defined_good Undefined = true
-defined_good (Cursor s) = shape_good s
+defined_good None = true
+defined_good (Some s) = shape_good s
 
 unfoldable pub well_formed : Device → Bool
 well_formed d =

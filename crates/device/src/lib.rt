@@ -1,11 +1,11 @@
 // The device: its parts, the test of a well-formed one, making.
 #![tactic(auto)]
 
-ghost use Rattle.std.specs.Prelude.{◌≡◌};
+ghost use Rattle.std.specs.Prelude.{◌≡◌, Err};
 ghost use Rattle.device.specs.Device.{frame_of, sizes_good, mode_good, condition_good, defined_good, well_formed, mode_fits, condition_of};
 ghost use Rattle.device.specs.Making.{creation, made_of};
 
-use cursor::Defined;
+use cursor::Shape;
 use effect::Marks;
 use execution::Cause;
 use geometry::Frame;
@@ -24,14 +24,14 @@ pub use raster::MAX_WIDTH;
 pub const MAX_HEIGHT: u32 = 1600;
 
 // M, the bytes of the ring memory, and P, the pixels of framebuffer and screen.
-#[derive(Clone, Copy)]
+#[derive(Clone, Copy, PartialEq, Eq)]
 pub struct Sizes {
     pub memory: u32,
     pub pixels: u32,
 }
 
 // The writable registers' values last taken. The mode is width by height.
-#[derive(Clone, Copy)]
+#[derive(Clone, Copy, PartialEq, Eq)]
 pub struct Registers {
     pub id: u32,
     pub enable: bool,
@@ -45,8 +45,8 @@ pub struct Registers {
     pub cursoron: u32,
 }
 
-// The cursor plane: whether it is shown, and what CURSOR_ON 1 remembered.
-#[derive(Clone, Copy)]
+// The cursor plane: whether it is shown, and what CURSOR_ON 1 remembered. That stays while it is hidden (`plane_on`), so `shown` is no Option's.
+#[derive(Clone, Copy, PartialEq, Eq)]
 pub struct Plane {
     pub shown: bool,
     pub id: u32,
@@ -54,14 +54,14 @@ pub struct Plane {
     pub y: u32,
 }
 
-#[derive(Clone, Copy)]
+#[derive(Clone, Copy, PartialEq, Eq)]
 pub enum Condition {
     Idle,
     Running(Ring),
     Faulted(Cause),
 }
 
-#[derive(Clone, Copy)]
+#[derive(Clone, Copy, PartialEq, Eq)]
 pub struct Device {
     pub sizes: Sizes,
     pub registers: Registers,
@@ -71,47 +71,38 @@ pub struct Device {
     pub condition: Condition,
 }
 
-#[derive(Clone, Copy)]
-pub enum Making {
-    Made(Device),
-    Refused,
+// Why making is refused: M or P is outside its limits.
+#[derive(Clone, Copy, PartialEq, Eq)]
+pub struct BadSizes;
+
+impl From<BadSizes> for u32 {
+    ghost from_gives = { λ e number. number ≡ (creation (Err e)).answer };
+
+    // Rules out: 20, which is a lent length's.
+    fn from(_e: BadSizes) -> u32 {
+        34
+    }
 }
 
 // ---- well-formed devices
 
 #[tactic(auto, unfolding(crate::specs::Device::sizes_good))]
-fn sizes_good(memory: u32, pixels: u32) -> bool
-    ensures { result ≡ sizes_good memory pixels }
+fn sizes_good(sizes: Sizes) -> bool
+    ensures { result ≡ sizes_good sizes.memory sizes.pixels }
 {
-    if memory % 4 != 0 {
-        return false;
-    }
-    if memory < MIN_MEMORY {
-        return false;
-    }
-    if MAX_MEMORY < memory {
-        return false;
-    }
-    if pixels < 1 {
-        return false;
-    }
-    pixels <= MAX_PIXELS
+    let Sizes { memory, pixels } = sizes;
+    memory % 4 == 0
+        && MIN_MEMORY <= memory
+        && memory <= MAX_MEMORY
+        && 1 <= pixels
+        && pixels <= MAX_PIXELS
 }
 
 #[tactic(auto, unfolding(crate::specs::Device::mode_good))]
 fn mode_good(width: u32, height: u32) -> bool
     ensures { result ≡ mode_good width height }
 {
-    if width < 1 {
-        return false;
-    }
-    if MAX_WIDTH < width {
-        return false;
-    }
-    if height < 1 {
-        return false;
-    }
-    height <= MAX_HEIGHT
+    1 <= width && width <= MAX_WIDTH && 1 <= height && height <= MAX_HEIGHT
 }
 
 #[tactic(auto, unfolding(crate::specs::Device::condition_good))]
@@ -119,32 +110,19 @@ fn condition_good(memory: u32, config: bool, condition: Condition) -> bool
     ensures { result ≡ condition_good memory config condition }
 {
     match condition {
-        Condition::Idle => {
-            return !config;
-        }
-        Condition::Running(ring) => {
-            if config {
-                return ring::is_placed(ring, (memory / 4) as usize);
-            }
-            return false;
-        }
-        Condition::Faulted(_) => {
-            return true;
-        }
+        Condition::Idle => !config,
+        Condition::Running(ring) => config && ring::is_placed(ring, (memory / 4) as usize),
+        Condition::Faulted(_) => true,
     }
 }
 
 #[tactic(auto, unfolding(crate::specs::Device::defined_good))]
-fn defined_good(defined: Defined) -> bool
+fn defined_good(defined: Option<Shape>) -> bool
     ensures { result ≡ defined_good defined }
 {
     match defined {
-        Defined::Undefined => {
-            return true;
-        }
-        Defined::Cursor(shape) => {
-            return cursor::shape_good(shape);
-        }
+        None => true,
+        Some(shape) => cursor::shape_good(shape),
     }
 }
 
@@ -154,24 +132,10 @@ fn defined_good(defined: Defined) -> bool
 pub fn is_well_formed(d: Device) -> bool
     ensures { result ≡ well_formed d }
 {
-    let sizes = d.sizes;
-    let good_sizes = sizes_good(sizes.memory, sizes.pixels);
-    if !good_sizes {
-        return false;
-    }
-    let g = d.registers;
-    let good_mode = mode_good(g.width, g.height);
-    if !good_mode {
-        return false;
-    }
-    let condition = d.condition;
-    let good_condition = condition_good(sizes.memory, g.config, condition);
-    if !good_condition {
-        return false;
-    }
-    let marks = d.marks;
-    let defined = marks.defined;
-    defined_good(defined)
+    sizes_good(d.sizes)
+        && mode_good(d.registers.width, d.registers.height)
+        && condition_good(d.sizes.memory, d.registers.config, d.condition)
+        && defined_good(d.marks.defined)
 }
 
 // ---- making, asking
@@ -179,40 +143,37 @@ pub fn is_well_formed(d: Device) -> bool
 // A fresh device for a ring memory of memory bytes and pixels pixels.
 // Rules out: a device for a memory of 10,252 bytes; a fresh device that is enabled.
 #[tactic(auto, unfolding(crate::specs::Making::made_of))]
-pub fn make(memory: u32, pixels: u32) -> Making
+pub fn make(memory: u32, pixels: u32) -> Result<Device, BadSizes>
     ensures { creation result ≡ made_of memory pixels }
 {
-    let good = sizes_good(memory, pixels);
-    if !good {
-        return Making::Refused;
+    let sizes = Sizes { memory, pixels };
+    if !sizes_good(sizes) {
+        return Err(BadSizes);
     }
-    let registers = Registers {
-        id: 0x90000000,
-        enable: false,
-        width: 640,
-        height: 480,
-        config: false,
-        guest: 0,
-        cursorid: 0,
-        cursorx: 0,
-        cursory: 0,
-        cursoron: 0,
-    };
-    let plane = Plane {
-        shown: false,
-        id: 0,
-        x: 0,
-        y: 0,
-    };
-    let marks = Marks {
-        fence: 0,
-        defined: Defined::Undefined,
-    };
-    Making::Made(Device {
-        sizes: Sizes { memory, pixels },
-        registers,
-        plane,
-        marks,
+    Ok(Device {
+        sizes,
+        registers: Registers {
+            id: 0x90000000,
+            enable: false,
+            width: 640,
+            height: 480,
+            config: false,
+            guest: 0,
+            cursorid: 0,
+            cursorx: 0,
+            cursory: 0,
+            cursoron: 0,
+        },
+        plane: Plane {
+            shown: false,
+            id: 0,
+            x: 0,
+            y: 0,
+        },
+        marks: Marks {
+            fence: 0,
+            defined: None,
+        },
         busy: false,
         condition: Condition::Idle,
     })
@@ -223,9 +184,7 @@ pub fn make(memory: u32, pixels: u32) -> Making
 pub fn mode_fits(d: Device) -> bool
     ensures { result ≡ mode_fits d }
 {
-    let sizes = d.sizes;
-    let g = d.registers;
-    g.width as u64 * g.height as u64 <= sizes.pixels as u64
+    d.registers.width as u64 * d.registers.height as u64 <= d.sizes.pixels as u64
 }
 
 // What commands reach of the screen: the mode, and behind it the rows that still lie whole in P pixels.
@@ -233,21 +192,11 @@ pub fn mode_fits(d: Device) -> bool
 pub fn frame_of(d: Device) -> Frame
     ensures { result ≡ frame_of d }
 {
-    let sizes = d.sizes;
-    let g = d.registers;
-    let width = g.width;
-    let height = g.height;
-    if width == 0 {
-        return Frame {
-            width,
-            height,
-            rows: 0,
-        };
-    }
+    let width = d.registers.width;
     Frame {
         width,
-        height,
-        rows: sizes.pixels / width,
+        height: d.registers.height,
+        rows: d.sizes.pixels.checked_div(width).unwrap_or(0),
     }
 }
 

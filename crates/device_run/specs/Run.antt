@@ -1,5 +1,6 @@
 -- A run of a device: document 01, "One command out of the ring" and "Answer numbers"; document 02, P1.
-use Rattle.std.specs.Prelude.{ℕ, ◌/◌, Bool, false, cond, ◌&&◌, List, eqb, length}
+use Rattle.std.specs.Prelude.{ℕ, ◌/◌, Bool, false, cond, ◌&&◌, List, eqb, length, ◌≡◌, Option, Some, None, Result, Ok, Err}
+use Rattle.execution.specs.declared.End.{End}
 use Rattle.execution.specs.declared.End.TheVariants.{Drained, Waiting, Fault}
 use Rattle.execution.specs.Straight.{end_number, Turn, Line}
 use Rattle.execution.specs.Table.{turn_of}
@@ -14,21 +15,24 @@ use Rattle.device.specs.declared.Condition.{Condition}
 use Rattle.device.specs.declared.Condition.TheVariants.{Idle, Running, Faulted}
 use Rattle.device.specs.declared.Device.{Device}
 use Rattle.device_run.specs.declared.Ran.{Ran}
-use Rattle.device_run.specs.declared.RunAnswer.{RunAnswer}
-use Rattle.device_run.specs.declared.RunAnswer.TheVariants.{Spent, Ended, WrongLength, Disabled, NotConfigured, FaultStands, TooLarge}
+use Rattle.device_run.specs.declared.RunError.{RunError}
+use Rattle.device_run.specs.declared.RunError.TheVariants.{WrongLength, Disabled, NotConfigured, FaultStands, TooLarge}
+use Rattle.device_run.specs.declared.Memories.{Memories}
 use Rattle.offscreen.specs.Offscreen.{joined}
 use Rattle.device.specs.Device.{memory_of, pixels_of, width_of, height_of, rows_of, enabled_of, configured_of, condition_of, mode_fits, well_formed}
 
--- run: 0 drained, 1 waiting for the rest of a command, 2 budget spent, 10 to 13 a fault, 20 lent length, 21 disabled, 22 not configured, 23 fault
--- already standing, 24 width·height above P
-abbrev pub run_number : RunAnswer → ℕ
-run_number Spent = 2
-run_number (Ended e) = end_number e
-run_number WrongLength = 20
-run_number Disabled = 21
-run_number NotConfigured = 22
-run_number FaultStands = 23
-run_number TooLarge = 24
+-- run: 0 drained, 1 waiting for the rest of a command, 2 budget spent, 10 to 13 a fault
+abbrev pub run_number : Option End → ℕ
+run_number None = 2
+run_number (Some e) = end_number e
+
+-- and where it is refused: 20 lent length, 21 disabled, 22 not configured, 23 fault already standing, 24 width·height above P
+abbrev pub run_error_number : RunError → ℕ
+run_error_number WrongLength = 20
+run_error_number Disabled = 21
+run_error_number NotConfigured = 22
+run_error_number FaultStands = 23
+run_error_number TooLarge = 24
 
 -- "Calls lend 32-bit words: the ring memory (M/4 words), the framebuffer (P), the screen (P), the cursor image (4,096)"
 pub record Lent : Type 0 where
@@ -48,6 +52,17 @@ with_ring l ring = lent ring l.framebuffer l.screen l.cursor
 abbrev pub with_framebuffer : Lent → List ℕ → Lent
 with_framebuffer l framebuffer = lent l.ring framebuffer l.screen l.cursor
 
+-- What the memories of a call hold.
+abbrev pub contents : Memories → Lent
+contents m = lent m.ring.now m.framebuffer.now m.screen.now m.cursor.now
+
+-- They are the same memories, whatever they hold.
+pub record SameMemories (m n : Memories) : Type 0 where
+  pub ring : m.ring.ghost_name ≡ n.ring.ghost_name
+  pub framebuffer : m.framebuffer ≡ n.framebuffer
+  pub screen : m.screen.ghost_name ≡ n.screen.ghost_name
+  pub cursor : m.cursor.ghost_name ≡ n.cursor.ghost_name
+
 -- A run answers a number and "the number of commands consumed in this run", and leaves a device and the lent memories.
 pub record RunOutcome : Type 0 where
   pub answer : ℕ
@@ -55,8 +70,10 @@ pub record RunOutcome : Type 0 where
   pub device : Device
   pub lent : Lent
 
-abbrev pub ran_of : Ran → Lent → RunOutcome
-ran_of r l = record { answer = run_number r.answer; count = r.count; device = r.device; lent = l }
+-- "Answers 20 to 34 change nothing; a run's count is then 0"
+abbrev pub ran_of : Device → Result Ran RunError → Lent → RunOutcome
+ran_of d (Ok r) l = record { answer = run_number r.end; count = r.count; device = r.device; lent = l }
+ran_of d (Err e) l = record { answer = run_error_number e; count = 0; device = d; lent = l }
 
 -- "the ring memory (M/4 words), the framebuffer (P), the screen (P), the cursor image (4,096)"
 unfoldable pub lent_good : Device → Lent → Bool

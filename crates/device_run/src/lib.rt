@@ -1,12 +1,11 @@
 // A run of a device: its refusals, and what it leaves.
 #![tactic(auto)]
 
-ghost use Rattle.execution.specs.Claim.{ended, answer_number};
+ghost use Rattle.std.specs.Prelude.{◌≡◌, true, Ok};
 ghost use Rattle.run.specs.Run.{answer_of};
 ghost use Rattle.device.specs.declared.Condition.TheVariants.{Running};
 ghost use Rattle.device.specs.Device.{mode_fits, well_formed};
-ghost use Rattle.std.specs.Prelude.{◌≡◌, true};
-ghost use Rattle.device_run.specs.Run.{run_number, lent, ran_of, lent_good, ready};
+ghost use Rattle.device_run.specs.Run.{run_number, run_error_number, lent, contents, SameMemories, ran_of, lent_good, ready};
 ghost use Rattle.device_run.specs.Run.{condition_after, busy_after, run_by, run_of};
 ghost use Rattle.device_run.specs.Settling.{Settles};
 
@@ -14,12 +13,28 @@ use cursor::IMAGE_WORDS;
 use device::{Condition, Device, is_well_formed, mode_fits};
 use execution::End;
 use ring::Ring;
-use run::RunEnd;
+use run::RingRun;
 
-#[derive(Clone, Copy)]
-pub enum RunAnswer {
-    Spent,
-    Ended(End),
+// What is lent for a run: the ring memory, the framebuffer, the screen and the cursor image.
+#[derive(Drop)]
+pub struct Memories<'a> {
+    pub ring: &'a mut [u32],
+    pub framebuffer: &'a [u32],
+    pub screen: &'a mut [u32],
+    pub cursor: &'a mut [u32],
+}
+
+// How a run ended, none where its budget was spent first; the commands that it consumed, and the device then.
+#[derive(Clone, Copy, PartialEq, Eq)]
+pub struct Ran {
+    pub end: Option<End>,
+    pub count: u32,
+    pub device: Device,
+}
+
+// Why a run is refused: nothing is done.
+#[derive(Clone, Copy, PartialEq, Eq)]
+pub enum RunError {
     WrongLength,
     Disabled,
     NotConfigured,
@@ -27,183 +42,144 @@ pub enum RunAnswer {
     TooLarge,
 }
 
-// How a run ended, the commands that it consumed, and the device then.
-#[derive(Clone, Copy)]
-pub struct Ran {
-    pub answer: RunAnswer,
-    pub count: u32,
-    pub device: Device,
-}
-
 // ---- answer numbers
 
+// The number of how a run ended. An Option is std's, so this is no `From`.
 // Rules out: 1 for a spent budget; 23 for a fault that this run met.
-pub fn run_number(answer: RunAnswer) -> u32
-    ensures { result ≡ run_number answer }
+pub fn run_number(end: Option<End>) -> u32
+    ensures { result ≡ run_number end }
 {
-    match answer {
-        RunAnswer::Spent => 2,
-        RunAnswer::Ended(end) => execution::end_number(end),
-        RunAnswer::WrongLength => 20,
-        RunAnswer::Disabled => 21,
-        RunAnswer::NotConfigured => 22,
-        RunAnswer::FaultStands => 23,
-        RunAnswer::TooLarge => 24,
+    match end {
+        None => 2,
+        Some(end) => u32::from(end),
+    }
+}
+
+impl From<RunError> for u32 {
+    ghost from_gives = { λ e number. number ≡ run_error_number e };
+
+    // Rules out: 21 and 22 exchanged; 13 for a fault that stands.
+    fn from(e: RunError) -> u32 {
+        match e {
+            RunError::WrongLength => 20,
+            RunError::Disabled => 21,
+            RunError::NotConfigured => 22,
+            RunError::FaultStands => 23,
+            RunError::TooLarge => 24,
+        }
     }
 }
 
 // ---- run
 
-// A refused run: nothing is done.
-fn refused(d: Device, answer: RunAnswer) -> Ran
-    ensures { result ≡ record { answer = answer; count = 0; device = d } }
-{
-    Ran {
-        answer,
-        count: 0,
-        device: d,
-    }
-}
-
 #[tactic(auto, unfolding(crate::specs::Run::lent_good))]
 fn lent_good(d: Device, ring: &[u32], framebuffer: &[u32], screen: &[u32], cursor: &[u32]) -> bool
     ensures { result ≡ lent_good d (lent ring.now framebuffer.now screen.now cursor.now) }
 {
-    let sizes = d.sizes;
-    let pixels = sizes.pixels as usize;
-    if ring.len() != (sizes.memory / 4) as usize {
-        return false;
-    }
-    if framebuffer.len() != pixels {
-        return false;
-    }
-    if screen.len() != pixels {
-        return false;
-    }
-    cursor.len() == IMAGE_WORDS
+    let pixels = d.sizes.pixels as usize;
+    ring.len() == (d.sizes.memory / 4) as usize
+        && framebuffer.len() == pixels
+        && screen.len() == pixels
+        && cursor.len() == IMAGE_WORDS
 }
 
-#[tactic(auto, unfolding(crate::specs::Run::condition_after))]
-fn condition_at(end: End, ring: Ring) -> Condition
-    ensures { result ≡ condition_after (ended end) ring }
+// Of memories that travel together: behind a shared reference their fields can be lent.
+fn memories_good(d: Device, memories: &Memories<'_>) -> bool
+    ensures { result ≡ lent_good d (contents memories.now) }
 {
-    match end {
-        End::Drained => Condition::Running(ring),
-        End::Waiting => Condition::Running(ring),
-        End::Fault(cause) => Condition::Faulted(cause),
-    }
+    lent_good(
+        d,
+        memories.ring,
+        memories.framebuffer,
+        memories.screen,
+        memories.cursor,
+    )
 }
 
 // A fault stands, or the ring is remembered with STOP as the run left it.
 #[tactic(auto, unfolding(crate::specs::Run::condition_after))]
-fn condition_after(answer: RunEnd, ring: Ring) -> Condition
-    ensures { result ≡ condition_after (answer_of answer) ring }
+fn condition_after(end: Option<End>, ring: Ring) -> Condition
+    ensures { result ≡ condition_after (answer_of end) ring }
 {
-    match answer {
-        RunEnd::Spent => Condition::Running(ring),
-        RunEnd::Ended(end) => condition_at(end, ring),
+    match end {
+        Some(End::Fault(cause)) => Condition::Faulted(cause),
+        Some(End::Drained | End::Waiting) | None => Condition::Running(ring),
     }
 }
 
 #[tactic(auto, unfolding(crate::specs::Run::busy_after))]
-fn busy_after(answer: RunEnd, busy: bool) -> bool
-    ensures { result ≡ busy_after (answer_of answer) busy }
+fn busy_after(end: Option<End>, busy: bool) -> bool
+    ensures { result ≡ busy_after (answer_of end) busy }
 {
-    match answer {
-        RunEnd::Spent => busy,
-        RunEnd::Ended(_) => false,
-    }
-}
-
-fn answer_of(answer: RunEnd) -> RunAnswer
-    ensures { run_number result ≡ answer_number (answer_of answer) }
-{
-    match answer {
-        RunEnd::Spent => RunAnswer::Spent,
-        RunEnd::Ended(end) => RunAnswer::Ended(end),
-    }
+    end.is_none() && busy
 }
 
 // The device after a run.
-fn settle(d: Device, res: run::RingRun) -> Ran
-    ensures { Settles d res result }
+fn settle(d: Device, left: RingRun) -> Ran
+    ensures { Settles d left result }
 {
-    let answer = res.answer;
-    let marks = res.marks;
-    let condition = condition_after(answer, res.ring);
-    let busy = busy_after(answer, d.busy);
     Ran {
-        answer: answer_of(answer),
-        count: res.count,
+        end: left.end,
+        count: left.count,
         device: Device {
-            marks,
-            busy,
-            condition,
+            marks: left.marks,
+            busy: busy_after(left.end, d.busy),
+            condition: condition_after(left.end, left.ring),
             ..d
         },
     }
 }
 
 // A run of a device that has a ring and is not refused. Its pixels in the mode or offscreen are those of its rows.
-fn run_ring(
-    d: Device,
-    at: Ring,
-    ring: &mut [u32],
-    framebuffer: &[u32],
-    screen: &mut [u32],
-    cursor: &mut [u32],
-    budget: u32,
-) -> Ran
-    requires { (well_formed d ≡ true) × (mode_fits d ≡ true) }
-    ensures { ran_of result (lent ring.new framebuffer.now screen.new cursor.new) ≡ run_by d (lent ring.old framebuffer.now screen.old cursor.old) budget (Running at) }
+fn run_ring(d: Device, at: Ring, memories: &mut Memories<'_>, budget: u32) -> Ran
+    requires good { well_formed d ≡ true }
+    requires fits { mode_fits d ≡ true }
+    ensures ran { ran_of d (Ok result) (contents memories.new) ≡ run_by d (contents memories.old) budget (Running at) }
+    ensures same { SameMemories memories.new memories.old }
 {
-    let marks = d.marks;
-    let frame = device::frame_of(d);
-    let result = run::run(at, marks, budget, ring, framebuffer, screen, cursor, frame);
-    settle(d, result)
+    let left = run::run(
+        at,
+        d.marks,
+        budget,
+        memories.ring,
+        memories.framebuffer,
+        memories.screen,
+        memories.cursor,
+        device::frame_of(d),
+    );
+    settle(d, left)
 }
 
-// Commands out of the ring, at most budget of them.
+// Commands out of the ring, at most budget of them. A run that is refused changes nothing.
 // Rules out: a run that refuses everything; "drained, 0" to everything; 21 before 22; a fault that clears nothing of BUSY.
 #[tactic(auto, unfolding(crate::specs::Run::run_of))]
-pub fn run(
-    d: Device,
-    ring: &mut [u32],
-    framebuffer: &[u32],
-    screen: &mut [u32],
-    cursor: &mut [u32],
-    budget: u32,
-) -> Ran
-    ensures { ran_of result (lent ring.new framebuffer.now screen.new cursor.new) ≡ run_of d (lent ring.old framebuffer.now screen.old cursor.old) budget }
+pub fn run(d: Device, memories: &mut Memories<'_>, budget: u32) -> Result<Ran, RunError>
+    ensures ran { ran_of d result (contents memories.new) ≡ run_of d (contents memories.old) budget }
+    ensures same { SameMemories memories.new memories.old }
 {
-    let good = is_well_formed(d);
-    if !good {
-        return refused(d, RunAnswer::NotConfigured);
+    if !is_well_formed(d) {
+        return Err(RunError::NotConfigured);
     }
-    let lent = lent_good(d, ring, framebuffer, screen, cursor);
-    if !lent {
-        return refused(d, RunAnswer::WrongLength);
+    if !memories_good(d, memories) {
+        return Err(RunError::WrongLength);
     }
-    let g = d.registers;
-    if !g.config {
-        return refused(d, RunAnswer::NotConfigured);
+    if !d.registers.config {
+        return Err(RunError::NotConfigured);
     }
-    if !g.enable {
-        return refused(d, RunAnswer::Disabled);
+    if !d.registers.enable {
+        return Err(RunError::Disabled);
     }
-    let fits = mode_fits(d);
-    if !fits {
-        return refused(d, RunAnswer::TooLarge);
+    if !mode_fits(d) {
+        return Err(RunError::TooLarge);
     }
-    let condition = d.condition;
-    match condition {
-        Condition::Idle => refused(d, RunAnswer::NotConfigured),
-        Condition::Running(at) => run_ring(d, at, ring, framebuffer, screen, cursor, budget),
-        Condition::Faulted(_) => refused(d, RunAnswer::FaultStands),
+    match d.condition {
+        Condition::Idle => Err(RunError::NotConfigured),
+        Condition::Running(at) => Ok(run_ring(d, at, memories, budget)),
+        Condition::Faulted(_) => Err(RunError::FaultStands),
     }
 }
 
-// Whether a run with these lent memories is refused with neither 20, 21, 22 nor 24.
+// Whether a run with these lent memories is refused with neither 20, 21, 22 nor 24. It only reads, so they come one by one: `Memories` would ask callers for `&mut`, and so for more.
 // Rules out: a disabled device that is ready; a device whose mode is larger than the screen.
 #[tactic(auto, unfolding(crate::specs::Run::ready))]
 pub fn is_ready(
@@ -215,19 +191,9 @@ pub fn is_ready(
 ) -> bool
     ensures { result ≡ ready d (lent ring.now framebuffer.now screen.now cursor.now) }
 {
-    let good = is_well_formed(d);
-    if !good {
-        return false;
-    }
-    let lent = lent_good(d, ring, framebuffer, screen, cursor);
-    if !lent {
-        return false;
-    }
-    let g = d.registers;
-    if g.config {
-        if g.enable {
-            return mode_fits(d);
-        }
-    }
-    false
+    is_well_formed(d)
+        && lent_good(d, ring, framebuffer, screen, cursor)
+        && d.registers.config
+        && d.registers.enable
+        && mode_fits(d)
 }

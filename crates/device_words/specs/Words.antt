@@ -1,9 +1,7 @@
 -- A device as 64 words, as a host in another language keeps it: the project's own layout, for what document 01 has a device hold.
-use Rattle.std.specs.Prelude.{ℕ, Bool, true, false, cond, ◌&&◌, List, [], ◌∷◌, ◌≡◌, eqb, length, get_or, replicate}
+use Rattle.std.specs.Prelude.{ℕ, Bool, true, false, cond, ◌&&◌, List, [], ◌∷◌, ◌≡◌, eqb, length, get_or, replicate, Option, None, Some}
 use Rattle.ring.specs.declared.Ring.{Ring}
 use Rattle.cursor.specs.declared.Shape.{Shape}
-use Rattle.cursor.specs.declared.Defined.{Defined}
-use Rattle.cursor.specs.declared.Defined.TheVariants.{Undefined, Cursor}
 use Rattle.execution.specs.declared.Cause.TheVariants.{NotOffered, BadOperand, TooLong, BadNext}
 use Rattle.execution.specs.Straight.{cause_number}
 use Rattle.device.specs.declared.Registers.{Registers}
@@ -15,8 +13,6 @@ use Rattle.device.specs.Device.{well_formed}
 use Rattle.register_read.specs.Registers.{bit}
 use Rattle.device_words.specs.declared.DefinedWords.{DefinedWords}
 use Rattle.device_words.specs.declared.ConditionWords.{ConditionWords}
-use Rattle.device_words.specs.declared.Held.{Held}
-use Rattle.device_words.specs.declared.Held.TheVariants.{Device as Holds, Nothing}
 
 -- ---- from a device to its words
 
@@ -30,9 +26,9 @@ abbrev pub plane_words : Plane → List ℕ → List ℕ
 plane_words p rest = bit p.shown ∷ p.id ∷ p.x ∷ p.y ∷ rest
 
 -- 16 to 21: 1 and the defined cursor; all 0 where none is defined.
-unfoldable pub defined_parts : Defined → DefinedWords
-defined_parts Undefined = record { tag = 0; shape = record { id = 0; hotx = 0; hoty = 0; w = 0; h = 0 } }
-defined_parts (Cursor s) = record { tag = 1; shape = s }
+unfoldable pub defined_parts : Option Shape → DefinedWords
+defined_parts None = record { tag = 0; shape = record { id = 0; hotx = 0; hoty = 0; w = 0; h = 0 } }
+defined_parts (Some s) = record { tag = 1; shape = s }
 
 abbrev pub defined_words : DefinedWords → List ℕ → List ℕ
 defined_words p rest = p.tag ∷ p.shape.id ∷ p.shape.hotx ∷ p.shape.hoty ∷ p.shape.w ∷ p.shape.h ∷ rest
@@ -59,8 +55,8 @@ words_of d =
 -- ---- from words to a device
 
 -- A bit, a tag or a word that no device has is taken for another; `spelled_in` sees that by the words of the device then.
-unfoldable pub defined_from : ℕ → Shape → Defined
-defined_from tag s = cond (eqb tag 1) (Cursor s) Undefined
+unfoldable pub defined_from : ℕ → Shape → Option Shape
+defined_from tag s = cond (eqb tag 1) (Some s) None
 
 unfoldable pub condition_from : ℕ → Ring → Condition
 condition_from tag g =
@@ -104,16 +100,16 @@ same (x ∷ a) [] = false
 same (x ∷ a) (y ∷ b) = eqb x y && same a b
 
 -- The words spell a device: they are its own 64 words. It may be one that no call can have made.
-unfoldable pub spelled_in : List ℕ → Held
-spelled_in w = cond (eqb (length w) 64) (cond (same (words_of (device_from w)) w) (Holds (device_from w)) Nothing) Nothing
+unfoldable pub spelled_in : List ℕ → Option Device
+spelled_in w = cond (eqb (length w) 64) (cond (same (words_of (device_from w)) w) (Some (device_from w)) None) None
 
 -- Of devices the well-formed.
-abbrev pub only_well_formed : Held → Held
-only_well_formed (Holds d) = cond (well_formed d) (Holds d) Nothing
-only_well_formed Nothing = Nothing
+abbrev pub only_well_formed : Option Device → Option Device
+only_well_formed (Some d) = cond (well_formed d) (Some d) None
+only_well_formed None = None
 
 -- The one test of lent words: they are the words of a device, and a well-formed one. Any others hold none.
-unfoldable pub held_in : List ℕ → Held
+unfoldable pub held_in : List ℕ → Option Device
 held_in w = only_well_formed (spelled_in w)
 
 -- A device written into 64 lent words; any other length is left as it is.

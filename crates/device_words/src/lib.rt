@@ -1,32 +1,24 @@
 // A device as 64 words: what a host in another language keeps between calls, and lends for each.
 #![tactic(auto)]
 
-ghost use Rattle.std.specs.Prelude.{◌≡◌, cond, eqb, length, replicate};
-ghost use Rattle.register_read.specs.Registers.{bit};
-ghost use Rattle.device_words.specs.Words.{defined_parts, condition_parts, setting_words, words_of, defined_from, condition_from, device_from, same, spelled_in, put_in};
+ghost use Rattle.std.specs.Prelude.{◌≡◌, length, replicate};
+ghost use Rattle.device_words.specs.Words.{defined_parts, condition_parts, setting_words, words_of, defined_from, condition_from, device_from, spelled_in, put_in};
 
 use adapter::{Condition, Device, Plane, Registers, Sizes};
-use cursor::{Defined, Shape};
+use cursor::Shape;
 use effect::Marks;
 use execution::Cause;
 use ring::Ring;
 
-// The device in lent words, or none.
-#[derive(Clone, Copy)]
-pub enum Held {
-    Device(Device),
-    Nothing,
-}
-
-// The words of the defined cursor: 1 and its id, hotspot and size, or all 0.
-#[derive(Clone, Copy)]
+// The words of the defined cursor as C has them: 1 and its id, hotspot and size, or all 0.
+#[derive(Clone, Copy, Default)]
 struct DefinedWords {
     tag: u32,
     shape: Shape,
 }
 
-// The words of a condition: 0 idle, 1 with the remembered ring, or the number of the fault that stands.
-#[derive(Clone, Copy)]
+// The words of a condition as C has them: 0 idle, 1 with the remembered ring, or the number of the fault that stands.
+#[derive(Clone, Copy, Default)]
 struct ConditionWords {
     tag: u32,
     ring: Ring,
@@ -34,33 +26,13 @@ struct ConditionWords {
 
 // ---- from a device to its words
 
-fn bit_of(b: bool) -> u32
-    ensures { result ≡ bit b }
-{
-    if b {
-        return 1;
-    }
-    0
-}
-
 #[tactic(auto, unfolding(crate::specs::Words::defined_parts))]
-fn defined_words(defined: Defined) -> DefinedWords
+fn defined_words(defined: Option<Shape>) -> DefinedWords
     ensures { result ≡ defined_parts defined }
 {
     match defined {
-        Defined::Undefined => {
-            let shape = Shape {
-                id: 0,
-                hotx: 0,
-                hoty: 0,
-                w: 0,
-                h: 0,
-            };
-            return DefinedWords { tag: 0, shape };
-        }
-        Defined::Cursor(shape) => {
-            return DefinedWords { tag: 1, shape };
-        }
+        None => DefinedWords::default(),
+        Some(shape) => DefinedWords { tag: 1, shape },
     }
 }
 
@@ -68,24 +40,13 @@ fn defined_words(defined: Defined) -> DefinedWords
 fn condition_words(condition: Condition) -> ConditionWords
     ensures { result ≡ condition_parts condition }
 {
-    let none = Ring {
-        min: 0,
-        max: 0,
-        stop: 0,
-    };
     match condition {
-        Condition::Idle => {
-            return ConditionWords { tag: 0, ring: none };
-        }
-        Condition::Running(ring) => {
-            return ConditionWords { tag: 1, ring };
-        }
-        Condition::Faulted(cause) => {
-            return ConditionWords {
-                tag: execution::cause_number(cause),
-                ring: none,
-            };
-        }
+        Condition::Idle => ConditionWords::default(),
+        Condition::Running(ring) => ConditionWords { tag: 1, ring },
+        Condition::Faulted(cause) => ConditionWords {
+            tag: u32::from(cause),
+            ..ConditionWords::default()
+        },
     }
 }
 
@@ -93,23 +54,22 @@ fn condition_words(condition: Condition) -> ConditionWords
 fn settings_of(d: Device) -> [u32; 64]
     ensures { result ≡ setting_words d (replicate 48 0) }
 {
-    let sizes = d.sizes;
     let g = d.registers;
     let plane = d.plane;
     let mut w = [0u32; 64];
-    w[0] = sizes.memory;
-    w[1] = sizes.pixels;
+    w[0] = d.sizes.memory;
+    w[1] = d.sizes.pixels;
     w[2] = g.id;
-    w[3] = bit_of(g.enable);
+    w[3] = u32::from(g.enable);
     w[4] = g.width;
     w[5] = g.height;
-    w[6] = bit_of(g.config);
+    w[6] = u32::from(g.config);
     w[7] = g.guest;
     w[8] = g.cursorid;
     w[9] = g.cursorx;
     w[10] = g.cursory;
     w[11] = g.cursoron;
-    w[12] = bit_of(plane.shown);
+    w[12] = u32::from(plane.shown);
     w[13] = plane.id;
     w[14] = plane.x;
     w[15] = plane.y;
@@ -120,12 +80,9 @@ fn settings_of(d: Device) -> [u32; 64]
 fn words_of(d: Device) -> [u32; 64]
     ensures { result ≡ words_of d }
 {
-    let marks = d.marks;
-    let defined = marks.defined;
-    let cursor = defined_words(defined);
+    let cursor = defined_words(d.marks.defined);
     let shape = cursor.shape;
-    let condition = d.condition;
-    let state = condition_words(condition);
+    let state = condition_words(d.condition);
     let ring = state.ring;
     let mut w = settings_of(d);
     w[16] = cursor.tag;
@@ -134,8 +91,8 @@ fn words_of(d: Device) -> [u32; 64]
     w[19] = shape.hoty;
     w[20] = shape.w;
     w[21] = shape.h;
-    w[22] = marks.fence;
-    w[23] = bit_of(d.busy);
+    w[22] = d.marks.fence;
+    w[23] = u32::from(d.busy);
     w[24] = state.tag;
     w[25] = ring.min;
     w[26] = ring.max;
@@ -146,35 +103,25 @@ fn words_of(d: Device) -> [u32; 64]
 // ---- from words to a device
 
 #[tactic(auto, unfolding(crate::specs::Words::defined_from))]
-fn defined_from(tag: u32, shape: Shape) -> Defined
+fn defined_from(tag: u32, shape: Shape) -> Option<Shape>
     ensures { result ≡ defined_from tag shape }
 {
-    if tag == 1 {
-        return Defined::Cursor(shape);
-    }
-    Defined::Undefined
+    (tag == 1).then_some(shape)
 }
 
+// From C's words. Of a tag that none has nothing is to be said here: `spelled_in` compares the words.
 #[tactic(auto, unfolding(crate::specs::Words::condition_from))]
 fn condition_from(tag: u32, ring: Ring) -> Condition
     ensures { result ≡ condition_from tag ring }
 {
-    if tag == 1 {
-        return Condition::Running(ring);
+    match tag {
+        1 => Condition::Running(ring),
+        10 => Condition::Faulted(Cause::NotOffered),
+        11 => Condition::Faulted(Cause::BadOperand),
+        12 => Condition::Faulted(Cause::TooLong),
+        13 => Condition::Faulted(Cause::BadNext),
+        _ => Condition::Idle,
     }
-    if tag == 10 {
-        return Condition::Faulted(Cause::NotOffered);
-    }
-    if tag == 11 {
-        return Condition::Faulted(Cause::BadOperand);
-    }
-    if tag == 12 {
-        return Condition::Faulted(Cause::TooLong);
-    }
-    if tag == 13 {
-        return Condition::Faulted(Cause::BadNext);
-    }
-    Condition::Idle
 }
 
 #[tactic(auto, unfolding(crate::specs::Words::device_from))]
@@ -232,56 +179,17 @@ fn device_from(w: &[u32]) -> Device
 
 // ---- the device in lent words
 
-fn differ(a: u32, b: u32) -> u32
-    ensures { result ≡ cond (eqb a b) 0 1 }
-{
-    if a == b {
-        return 0;
-    }
-    1
-}
-
-// Whether the lent words are these. All are looked at: the loop then takes several at a time.
-fn are_same(a: &[u32], w: &[u32]) -> bool
-    requires { (length a.now ≡ 64) × (length w.now ≡ 64) }
-    ensures { result ≡ same a.now w.now }
-{
-    let mut n = 0;
-    let mut i = 0;
-    while i < 64 {
-        n += differ(a[i], w[i]);
-        i += 1;
-    }
-    n == 0
-}
-
 // The device that the lent words spell. Whether it is well-formed its callers test.
 // Rules out: a device in 63 words; a device where a spare word is not 0.
-#[tactic(auto, unfolding(crate::specs::Words::spelled_in))]
-pub fn spelled_in(w: &[u32]) -> Held
+#[tactic(auto, using(crate::proofs::Laws::spelled_by), unfolding(crate::specs::Words::spelled_in))]
+pub fn spelled_in(w: &[u32]) -> Option<Device>
     ensures { result ≡ spelled_in w.now }
 {
     if w.len() != 64 {
-        return Held::Nothing;
+        return None;
     }
     let d = device_from(w);
-    let words = words_of(d);
-    let known = are_same(&words, w);
-    if !known {
-        return Held::Nothing;
-    }
-    Held::Device(d)
-}
-
-fn put_words(w: &mut [u32], words: &[u32])
-    requires { (length w.old ≡ 64) × (length words.now ≡ 64) }
-    ensures { w.new ≡ words.now }
-{
-    let mut i = 0;
-    while i < 64 {
-        w[i] = words[i];
-        i += 1;
-    }
+    (words_of(d).as_slice() == w).then_some(d)
 }
 
 // The device's words into the lent ones.
@@ -290,9 +198,7 @@ fn put_words(w: &mut [u32], words: &[u32])
 pub fn put_in(w: &mut [u32], d: Device)
     ensures { w.new ≡ put_in w.old d }
 {
-    if w.len() != 64 {
-        return;
+    if w.len() == 64 {
+        w.copy_from_slice(&words_of(d));
     }
-    let words = words_of(d);
-    put_words(w, &words);
 }

@@ -14,7 +14,7 @@ use Rattle.geometry.specs.Pixels.{in_area, painted_if}
 use Rattle.geometry.proofs.Painted.{painted_region, painted_if_lem, refused_if}
 use Rattle.raster.specs.Painters.{filled_in, filled, source_column, source_row, moves, copied_in, copied}
 use Rattle.raster.proofs.Cuts.{rows_fit_lem}
-use Rattle.command.specs.declared.Source.{Source}
+use Rattle.geometry.specs.declared.Point.{Point}
 use Rattle.command.specs.declared.Action.TheVariants.{Fill, Copy}
 use Rattle.effect.specs.Effects.{Scene, scene, reached, copies, screen_after}
 
@@ -35,7 +35,7 @@ module _ (f : Frame) (framebuffer : List ℕ) (posts : Bool) (r : Rect) where
   unfolding reached in_area
   in_area_lem wide k = rw (lt-ltb (k % f.width) f.width (mod-lt k wide))
 
-  moving : (from : Source) → 0 < f.width → (k : ℕ) → copies by_rows from r k ≡ moves f.width f.rows from.x from.y r k
+  moving : (from : Point) → 0 < f.width → (k : ℕ) → copies by_rows from r k ≡ moves f.width f.rows from.x from.y r k
   unfolding copies moves
   moving from wide k =
       ap
@@ -49,7 +49,7 @@ module _ (f : Frame) (framebuffer : List ℕ) (posts : Bool) (r : Rect) where
   unfolding screen_after filled_in filled
   fill_by_rows colour rop screen = region_if _ _ _ _ screen (λ t. in_area_lem (rows_fit_lem _ _ _ t).wide)
 
-  pub copy_by_rows : (from : Source) (rop : ℕ) (screen : List ℕ)
+  pub copy_by_rows : (from : Point) (rop : ℕ) (screen : List ℕ)
       → screen_after by_rows (Copy from r rop) screen ≡ copied f.width f.rows from.x from.y r rop screen
   unfolding screen_after copied_in copied
   copy_by_rows from rop screen = region_if _ _ _ _ screen (λ t. moving from (rows_fit_lem _ _ _ t).wide)

@@ -17,7 +17,7 @@ use Rattle.geometry.proofs.Painted.{get_or-painted, painted_if_lem, length-paint
 use Rattle.pixel.specs.RasterOperation.{raster_op}
 use Rattle.raster.specs.Painters.{filled_in, source_column, source_row, copied_in}
 use Rattle.raster.proofs.Laws.{length-updated, update_outside}
-use Rattle.command.specs.declared.Source.{Source}
+use Rattle.geometry.specs.declared.Point.{Point}
 use Rattle.command.specs.declared.Action.{Action}
 use Rattle.command.specs.declared.Action.TheVariants.{Update, Fill, Copy, Define, Fence, Nothing}
 use Rattle.effect.specs.Effects.{Scene, reached, copies, rows_in, Paints, screen_after}
@@ -60,7 +60,7 @@ module _ (s : Scene) (screen : List ℕ) (k : ℕ) where
   unfolding reached
   unreached r out = and_no (in_rect s.width r.x r.y r.w r.h k) (joined_at s k) out
 
-  unmoved : (from : Source) (r : Rect) → joined_at s k ≡ false → copies s from r k ≡ false
+  unmoved : (from : Point) (r : Rect) → joined_at s k ≡ false → copies s from r k ≡ false
   unfolding copies
   unmoved from r out = rw (unreached r out)
 
@@ -127,7 +127,7 @@ reach_ends s a screen k mode wide out = screen_outside s screen k a (outside_joi
 
 -- "Demand 2's copy rule reads 'in the mode or offscreen' for both pixels": a copy leaves at place k the operation of source and old destination exactly if
 -- its pixel is one of the rectangle's and both pixels are in the mode or offscreen, and the old pixel else.
-pub copy_moves : (s : Scene) (from : Source) (r : Rect) (rop : ℕ) (screen : List ℕ) (k : ℕ) → rows_in s screen ≡ true → k < length screen
+pub copy_moves : (s : Scene) (from : Point) (r : Rect) (rop : ℕ) (screen : List ℕ) (k : ℕ) → rows_in s screen ≡ true → k < length screen
     → (let x = source_column s.width from.x r.x k in
     let y = source_row s.width from.y r.y k in
     get_or (screen_after s (Copy from r rop) screen) k 0

@@ -1,12 +1,11 @@
 -- What an executed command does: document 01, "One command out of the ring". The machine is what straight execution's state has beside the words left:
 -- "screen, cursor image, defined cursor (none, or id, hotspot and size), fence", and ring word 6 where document 02, P1, has fences written there.
-use Rattle.std.specs.Prelude.{ℕ, ◌*◌, Bool, cond, ◌&&◌, List, ◌++◌, ltb, length, take, drop}
+use Rattle.std.specs.Prelude.{ℕ, ◌*◌, Bool, cond, ◌&&◌, List, ◌++◌, ltb, length, take, drop, Option, Some}
+use Rattle.cursor.specs.declared.Shape.{Shape}
 use Rattle.geometry.specs.declared.Frame.{Frame}
 use Rattle.geometry.specs.declared.Rect.{Rect}
 use Rattle.geometry.specs.Pixels.{column_of, row_of, in_rect}
-use Rattle.cursor.specs.declared.Defined.{Defined}
-use Rattle.cursor.specs.declared.Defined.TheVariants.{Cursor}
-use Rattle.command.specs.declared.Source.{Source}
+use Rattle.geometry.specs.declared.Point.{Point}
 use Rattle.command.specs.declared.Action.{Action}
 use Rattle.command.specs.declared.Action.TheVariants.{Update, Fill, Copy, Define, Fence, Nothing}
 use Rattle.raster.specs.Painters.{rows_fit, filled_in, updated, source_column, source_row, copied_in}
@@ -38,7 +37,7 @@ unfoldable pub reached : Scene → Rect → ℕ → Bool
 reached s r k = in_rect s.width r.x r.y r.w r.h k && s.joined (column_of s.width k) (row_of s.width k)
 
 -- "Demand 2's copy rule reads 'in the mode or offscreen' for both pixels": the destination at place k, and its source.
-unfoldable pub copies : Scene → Source → Rect → ℕ → Bool
+unfoldable pub copies : Scene → Point → Rect → ℕ → Bool
 copies s from r k = reached s r k && s.joined (source_column s.width from.x r.x k) (source_row s.width from.y r.y k)
 
 -- Where the rows do not lie in the lent screen, a painter changes nothing; a device's always do.
@@ -83,11 +82,11 @@ posted_after posts (Fence number) posted = cond posts number posted
 posted_after posts Nothing posted = posted
 
 -- A cursor command defines id, hotspot and size.
-unfoldable pub defined_after : Action → Defined → Defined
+unfoldable pub defined_after : Action → Option Shape → Option Shape
 defined_after (Update r) was = was
 defined_after (Fill r colour rop) was = was
 defined_after (Copy from r rop) was = was
-defined_after (Define shape) was = Cursor shape
+defined_after (Define shape) was = Some shape
 defined_after (Fence number) was = was
 defined_after Nothing was = was
 

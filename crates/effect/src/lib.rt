@@ -7,42 +7,33 @@ ghost use Rattle.raster.specs.Painters.{filled, copied};
 ghost use Rattle.effect.specs.Effects.{scene, screen_after, fence_after, defined_after, marks_after};
 
 use command::Action;
-use cursor::Defined;
-use geometry::Frame;
+use cursor::Shape;
+use geometry::{Frame, Grid, Point, Rect};
 
-// The last fence executed and the defined cursor.
-#[derive(Clone, Copy)]
+// The last fence executed and the defined cursor, if one is.
+#[derive(Clone, Copy, PartialEq, Eq)]
 pub struct Marks {
     pub fence: u32,
-    pub defined: Defined,
+    pub defined: Option<Shape>,
 }
 
 // A fill. Its own call with the constant of a plain one keeps the painter's loops apart.
-fn fill(screen: &mut [u32], width: u32, rows: u32, area: geometry::Rect, colour: u32, rop: u32)
-    ensures { screen.new ≡ filled width rows area colour rop screen.old }
+fn fill(screen: &mut [u32], grid: Grid, area: Rect, colour: u32, rop: u32)
+    ensures { screen.new ≡ filled grid.width grid.rows area colour rop screen.old }
 {
-    if rop == 3 {
-        raster::fill(screen, width, rows, area, colour, 3);
-        return;
+    match rop {
+        pixel::COPY => raster::fill(screen, grid, area, colour, pixel::COPY),
+        _ => raster::fill(screen, grid, area, colour, rop),
     }
-    raster::fill(screen, width, rows, area, colour, rop);
 }
 
-fn copy(
-    screen: &mut [u32],
-    width: u32,
-    rows: u32,
-    from: command::Source,
-    area: geometry::Rect,
-    rop: u32,
-)
-    ensures { screen.new ≡ copied width rows from.x from.y area rop screen.old }
+fn copy(screen: &mut [u32], grid: Grid, from: Point, area: Rect, rop: u32)
+    ensures { screen.new ≡ copied grid.width grid.rows from.x from.y area rop screen.old }
 {
-    if rop == 3 {
-        raster::copy(screen, width, rows, from.x, from.y, area, 3);
-        return;
+    match rop {
+        pixel::COPY => raster::copy(screen, grid, from, area, pixel::COPY),
+        _ => raster::copy(screen, grid, from, area, rop),
     }
-    raster::copy(screen, width, rows, from.x, from.y, area, rop);
 }
 
 // The screen's part of an action, whether fences are posted or not. An update keeps to the mode; fills and copies reach all rows.
@@ -52,18 +43,10 @@ pub fn draw(action: Action, framebuffer: &[u32], screen: &mut [u32], frame: Fram
     ensures { (posts : Bool) → screen.new ≡ screen_after (scene frame framebuffer.now posts) action screen.old }
 {
     match action {
-        Action::Update(area) => raster::update(
-            framebuffer,
-            screen,
-            frame.width,
-            frame.height,
-            area,
-        ),
-        Action::Fill(area, colour, rop) => fill(screen, frame.width, frame.rows, area, colour, rop),
-        Action::Copy(from, area, rop) => copy(screen, frame.width, frame.rows, from, area, rop),
-        Action::Define(_) => {}
-        Action::Fence(_) => {}
-        Action::Nothing => {}
+        Action::Update(area) => raster::update(framebuffer, screen, frame.mode(), area),
+        Action::Fill(area, colour, rop) => fill(screen, frame.all_rows(), area, colour, rop),
+        Action::Copy(from, area, rop) => copy(screen, frame.all_rows(), from, area, rop),
+        Action::Define(_) | Action::Fence(_) | Action::Nothing => {}
     }
 }
 
@@ -74,38 +57,31 @@ pub fn fence_after(action: Action, fence: u32) -> u32
     ensures { result ≡ fence_after action fence }
 {
     match action {
-        Action::Update(_) => fence,
-        Action::Fill(_, _, _) => fence,
-        Action::Copy(_, _, _) => fence,
-        Action::Define(_) => fence,
         Action::Fence(number) => number,
-        Action::Nothing => fence,
+        _ => fence,
     }
 }
 
 // The defined cursor after an action.
 #[tactic(auto, unfolding(crate::specs::Effects::defined_after))]
-fn defined_after(action: Action, defined: Defined) -> Defined
+fn defined_after(action: Action, defined: Option<Shape>) -> Option<Shape>
     ensures { result ≡ defined_after action defined }
 {
     match action {
-        Action::Update(_) => defined,
-        Action::Fill(_, _, _) => defined,
-        Action::Copy(_, _, _) => defined,
-        Action::Define(shape) => Defined::Cursor(shape),
-        Action::Fence(_) => defined,
-        Action::Nothing => defined,
+        Action::Define(shape) => Some(shape),
+        _ => defined,
     }
 }
 
-// The fence and the defined cursor after an action.
-// Rules out: a defined cursor that keeps the old hotspot; a cursor that clears the fence.
-pub fn mark(marks: Marks, action: Action) -> Marks
-    ensures { result ≡ marks_after action marks }
-{
-    let defined = marks.defined;
-    Marks {
-        fence: fence_after(action, marks.fence),
-        defined: defined_after(action, defined),
+impl Marks {
+    // The fence and the defined cursor after an action.
+    // Rules out: a defined cursor that keeps the old hotspot; a cursor that clears the fence.
+    pub fn after(self, action: Action) -> Marks
+        ensures { result ≡ marks_after action self }
+    {
+        Marks {
+            fence: fence_after(action, self.fence),
+            defined: defined_after(action, self.defined),
+        }
     }
 }

@@ -10,15 +10,15 @@ use lib.Dec.{eqb, ltb}
 use borrow.Author.Tests.{eqb-true, eqb-false, ne_eqb, ltb-true, lt-ltb}
 use borrow.Table.Steps.{cases}
 use Rattle.geometry.specs.declared.Rect.{Rect}
-use Rattle.geometry.specs.declared.Cut.TheVariants.{Rectangle, Nothing}
+use Rattle.std.specs.Prelude.{Some, None}
 use Rattle.geometry.specs.Rectangle.{span_below, cut_of, cut_to, cut_copy, rect}
 use Rattle.geometry.specs.Pixels.{within, in_rect, in_area, Has, Remains}
 use Rattle.geometry.proofs.Tests.{both, and_yes, same_bool, within_in, within_yes}
 
 -- ---- the two answers of a cut, with what each says of the numbers
 
-pub cut_cases : {P : Type 0} (x y w h : ℕ) → (cut_of x y w h ≡ Nothing → (w ≡ 0) ⊎ (h ≡ 0) → P)
-    → (cut_of x y w h ≡ Rectangle (rect x y w h) → 0 < w → 0 < h → P) → P
+pub cut_cases : {P : Type 0} (x y w h : ℕ) → (cut_of x y w h ≡ None → (w ≡ 0) ⊎ (h ≡ 0) → P)
+    → (cut_of x y w h ≡ Some (rect x y w h) → 0 < w → 0 < h → P) → P
 cut_cases x y w h none some =
     cases (eqb w 0)
     (λ t. none (rw t) (inl (eqb-true w 0 t)))
@@ -29,14 +29,14 @@ cut_cases x y w h none some =
     let v = eqb-false h 0 g in
     some (rw (f, g)) (omega arith) (omega arith)))
 
-pub cut_rectangle : (x y w h : ℕ) (a : Rect) → cut_of x y w h ≡ Rectangle a → (a ≡ rect x y w h) × (0 < w) × (0 < h)
+pub cut_rectangle : (x y w h : ℕ) (a : Rect) → cut_of x y w h ≡ Some a → (a ≡ rect x y w h) × (0 < w) × (0 < h)
 cut_rectangle x y w h a e =
     cut_cases x y w h (λ n o. absurd (true≢false cc)) (λ r p q. (cc, p, q))
 
-pub cut_nothing : (x y w h : ℕ) → cut_of x y w h ≡ Nothing → (w ≡ 0) ⊎ (h ≡ 0)
+pub cut_nothing : (x y w h : ℕ) → cut_of x y w h ≡ None → (w ≡ 0) ⊎ (h ≡ 0)
 cut_nothing x y w h e = cut_cases x y w h (λ n o. o) (λ r p q. absurd (true≢false cc))
 
-cut_some : (x y w h : ℕ) → 0 < w → 0 < h → cut_of x y w h ≡ Rectangle (rect x y w h)
+cut_some : (x y w h : ℕ) → 0 < w → 0 < h → cut_of x y w h ≡ Some (rect x y w h)
 cut_some x y w h p q = rw (ne_eqb w 0 (λ e. omega arith), ne_eqb h 0 (λ e. omega arith))
 
 -- ---- pixels
@@ -80,8 +80,8 @@ area_cut width rows r k pos =
 
 -- nothing is left exactly when no pixel remains
 pub nothing_left : (r : Rect) (width rows : ℕ)
-    → (cut_to r width rows ≡ Nothing → (px py : ℕ) → Remains r width rows px py → ⊥)
-    × (((px py : ℕ) → Remains r width rows px py → ⊥) → cut_to r width rows ≡ Nothing)
+    → (cut_to r width rows ≡ None → (px py : ℕ) → Remains r width rows px py → ⊥)
+    × (((px py : ℕ) → Remains r width rows px py → ⊥) → cut_to r width rows ≡ None)
 unfolding cut_to
 nothing_left r width rows =
     let w = span_below width r.x r.w in
@@ -98,7 +98,7 @@ nothing_left r width rows =
     ))
 
 -- what is left has exactly the pixels that remain
-pub cut_pixels : (r a : Rect) (width rows px py : ℕ) → cut_to r width rows ≡ Rectangle a
+pub cut_pixels : (r a : Rect) (width rows px py : ℕ) → cut_to r width rows ≡ Some a
     → (Has a.x a.y a.w a.h px py → Remains r width rows px py) × (Remains r width rows px py → Has a.x a.y a.w a.h px py)
 unfolding cut_to
 cut_pixels r a width rows px py e =
@@ -109,7 +109,7 @@ cut_pixels r a width rows px py e =
     )
 
 -- cutting twice is cutting once
-pub cut_again : (r a : Rect) (width rows : ℕ) → cut_to r width rows ≡ Rectangle a → cut_to a width rows ≡ Rectangle a
+pub cut_again : (r a : Rect) (width rows : ℕ) → cut_to r width rows ≡ Some a → cut_to a width rows ≡ Some a
 unfolding cut_to
 cut_again r a width rows e =
     let w = span_below width r.x r.w in
@@ -121,7 +121,7 @@ cut_again r a width rows e =
 
 -- a rectangle that begins inside and reaches the edge or beyond, as whole numbers, however far, is cut at the edge: a wide bar does not vanish
 pub wide_bar : (r : Rect) (width rows : ℕ) → r.x < width → width ≤ r.x + r.w → r.y < rows → rows ≤ r.y + r.h
-    → cut_to r width rows ≡ Rectangle (rect r.x r.y (width - r.x) (rows - r.y))
+    → cut_to r width rows ≡ Some (rect r.x r.y (width - r.x) (rows - r.y))
 unfolding cut_to
 wide_bar r width rows a b c d =
     let w : span_below width r.x r.w ≡ width - r.x = omega arith in
@@ -129,7 +129,7 @@ wide_bar r width rows a b c d =
     rw (w, h) (cut_some r.x r.y (width - r.x) (rows - r.y) (omega arith) (omega arith))
 
 -- the same with numbers whose sums pass 2 ^ 32
-pub wide_bar_example : cut_to (rect 1 2 4294967295 4294967295) 640 480 ≡ Rectangle (rect 1 2 639 478)
+pub wide_bar_example : cut_to (rect 1 2 4294967295 4294967295) 640 480 ≡ Some (rect 1 2 639 478)
 unfolding cut_to
 wide_bar_example = refl
 
@@ -142,7 +142,7 @@ pub record Moves (sx sy : ℕ) (r : Rect) (width rows i j : ℕ) : Type 0 where
   pub source_across : sx + i < width
   pub source_down : sy + j < rows
 
-pub copy_pixels : (sx sy : ℕ) (r a : Rect) (width rows i j : ℕ) → cut_copy sx sy r width rows ≡ Rectangle a
+pub copy_pixels : (sx sy : ℕ) (r a : Rect) (width rows i j : ℕ) → cut_copy sx sy r width rows ≡ Some a
     → ((i < a.w) × (j < a.h) → Moves sx sy r width rows i j) × (Moves sx sy r width rows i j → (i < a.w) × (j < a.h))
 unfolding cut_copy
 copy_pixels sx sy r a width rows i j e =
@@ -155,8 +155,8 @@ copy_pixels sx sy r a width rows i j e =
     )
 
 pub copy_nothing_left : (sx sy : ℕ) (r : Rect) (width rows : ℕ)
-    → (cut_copy sx sy r width rows ≡ Nothing → (i j : ℕ) → Moves sx sy r width rows i j → ⊥)
-    × (((i j : ℕ) → Moves sx sy r width rows i j → ⊥) → cut_copy sx sy r width rows ≡ Nothing)
+    → (cut_copy sx sy r width rows ≡ None → (i j : ℕ) → Moves sx sy r width rows i j → ⊥)
+    × (((i j : ℕ) → Moves sx sy r width rows i j → ⊥) → cut_copy sx sy r width rows ≡ None)
 unfolding cut_copy
 copy_nothing_left sx sy r width rows =
     let w = span_below width sx (span_below width r.x r.w) in

@@ -6,6 +6,9 @@ use mathlib.Core.List.{List}
 use Prim.Native.Nat.{ℕ, ◌+◌, ◌*◌, ◌-◌, ◌≤◌, ◌<◌}
 use native.Mathlib.Omega.{arith}
 use lib.ListN.{length, get_or}
+use lib.Dec.{leb}
+use borrow.Author.Tests.{leb-true, leb-false}
+use borrow.Table.Steps.{cases}
 use borrow.Rule.Slice.PartMut.{mid_of, put_mid}
 use Rattle.geometry.specs.Pixels.{within, in_rect, tabulate, painted}
 use Rattle.geometry.specs.Parts.{moved, next, done_from, Inside, Ordered, after}
@@ -57,15 +60,24 @@ module _ {back : Bool} {from to n : ℕ} {f : ℕ → ℕ → ℕ} {old : List �
         → (later : List ℕ) → later ≡ moved (from + next back n done k) (to + next back n done k) k f l → PiecesDone back from to n f old (done + k) later
     pieces_turn o fits k h later is = record { most = h; moves = piece_moved back from to n done k f old l o pieces.moves h fits later is }
 
+    -- those up to a later one
+    pub pieces_to : Ordered back from to → from + n ≤ length old → {then : ℕ} → done ≤ then → then ≤ n
+        → {later : List ℕ} → later ≡ moved (from + next back n done (then - done)) (to + next back n done (then - done)) (then - done) f l
+        → PiecesDone back from to n f old then later
+    pieces_to o fits {then} more most is =
+        let e : done + (then - done) ≡ then = omega arith in
+        rw e at (pieces_turn o fits (then - done) (omega arith) _ is)
+
     pub pieces_end : n ≤ done → l ≡ moved from to n f old
     pieces_end over = pieces_done back from to n done f old l (omega arith) pieces.moves
 
-  -- the rest is one piece more, from i to j
-  pub pieces_rest : {done : ℕ} {l : List ℕ} → PiecesDone back from to n f old done l → Ordered back from to → from + n ≤ length old
-      → (i j : ℕ) (later : List ℕ) → later ≡ moved i j (n - done) f l → i ≡ from + next back n done (n - done) → j ≡ to + next back n done (n - done)
-      → later ≡ moved from to n f old
-  pieces_rest {done} pieces o fits i j later is e g =
-      let all = pieces_turn pieces o fits (n - done) (omega arith) later (rw (e, g) at is) in pieces_end all (omega arith)
+-- m more of n where so many are left, and fewer than twice m were: fewer than m are left
+pub fewer_left : (m : ℕ) {n done then : ℕ} → (done + m ≤ n → then ≡ done + m) → (n < done + m → then ≡ done) → done ≤ n → n < done + (m + m)
+    → (done ≤ then) × (then ≤ n) × (n < then + m)
+fewer_left m {n} {done} left none most fewer =
+    cases (leb (done + m) n)
+    (λ t. let e = left (leb-true (done + m) n t) in (omega arith, omega (arith, leb-true (done + m) n t), omega arith))
+    (λ f. let few : n < done + m = omega (arith, leb-false (done + m) n f) in let e = none few in (omega arith, omega arith, omega arith))
 
 -- ---- the rows of a copy, from the top or from the bottom
 
@@ -117,3 +129,5 @@ module _ {back : Bool} {width sx sy x y w h : ℕ} where
     pub copy_end : {done : ℕ} {l : List ℕ} → CopyDone back width sx sy x y w h f old done l → h ≤ done
         → l ≡ painted (in_rect width x y w h) (copied_at width sx sy x y f old) old
     copy_end {done} {l} rows over = rows_done back width x y w h done _ old l (omega arith) rows.moves
+
+pub ruleset copy_loop = (copy_begin, copy_row, copy_turn, copy_end)

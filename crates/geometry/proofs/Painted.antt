@@ -6,7 +6,9 @@ use mathlib.Core.Logic.{⊎_elim}
 use mathlib.Core.List.{List, [], ◌++◌}
 use Prim.Native.Nat.{ℕ, ◌+◌, ◌-◌, ◌≤◌, ◌<◌}
 use native.Mathlib.Omega.{arith}
-use lib.ListN.{length, get_or, take, length-take, length-drop, get_or-append}
+use lib.ListN.{length, get_or, set, take, length-set, length-take, length-drop, get_or-append}
+use Rattle.std.proofs.Common.{◌≢◌}
+use Rattle.std.proofs.lemmas.List.{get_or-set_same, get_or-set_other}
 use lib.Seq.{get_or-drop, get_or-take, get_or-append-add, length-take-le}
 use borrow.Rule.Slice.PartMut.{mid_of, post_of, put_mid, same_len_mid}
 use borrow.Table.Steps.{cases}
@@ -118,6 +120,19 @@ put_painted l row a n g fit is =
     let b = within_in a n k t in
     get_or-put_in l row a n fit len k b.0 b.1 ∙ rw (is-n, get_or-tabulate n g (k - a) (omega arith), t))
     (λ f. get_or_put_out l row a n fit len k f ∙ rw f))
+
+-- a single place that is set
+pub set_painted : (l : List ℕ) (a v : ℕ) → a < length l → set l a v ≡ painted (within a 1) (λ k. v) l
+set_painted l a v h =
+    is_painted (within a 1) (λ k. v) l (set l a v) (length-set l a v)
+    (λ k lt. cases (within a 1 k)
+    (λ t.
+    let b = within_in a 1 k t in
+    let e : k ≡ a = omega arith in
+    rw (t, e) (get_or-set_same l a v 0 h))
+    (λ f.
+    let other : k ≢ a = ⊎_elim (λ (b : k < a). λ e. omega arith) (λ (b : a + 1 ≤ k). λ e. omega arith) (within_out a 1 k f) in
+    rw f (get_or-set_other l a k v 0 other)))
 
 -- a painter's loop, of which l is the screen so far: its invariant, and what a turn asks
 pub record Done (R : ℕ → Bool) (new : ℕ → ℕ) (old l : List ℕ) : Type 0 where

@@ -1,21 +1,22 @@
 -- The rows of a rectangle, a row in pieces, and copies of both, from the front or from the back.
 -- Assumes nothing.
-use mathlib.Core.Path.{◌≡◌, refl, sym, ◌∙◌}
+use mathlib.Core.Path.{◌≡◌, refl, sym, ap, ◌∙◌}
 use mathlib.Core.Bool.{Bool, true, false, and-false, true≢false}
 use mathlib.Core.Logic.{⊎_elim}
 use mathlib.Core.List.{List, []}
 use Prim.Native.Nat.{ℕ, ◌+◌, ◌-◌, ◌*◌, ◌/◌, ◌%◌, ◌≤◌, ◌<◌}
 use native.Mathlib.Nat.{add-mul, one-mul, mul-le-mul_right, mul_comm, div-eq_of_lt-le, div-add-mod'}
 use native.Mathlib.Omega.{arith}
-use lib.ListN.{length, get_or}
+use lib.ListN.{length, get_or, take}
+use lib.Seq.{take-append_seam}
 use lib.Dec.{eqb, ltb}
 use borrow.Author.Tests.{eqb-true, eqb-false, ltb-true, ltb-false}
-use borrow.Rule.Slice.PartMut.{mid_of, put_mid}
+use borrow.Rule.Slice.PartMut.{mid_of, post_of, put_mid}
 use borrow.Table.Steps.{cases}
 use Rattle.geometry.specs.Pixels.{place_of, column_of, row_of, within, in_rect, tabulate, painted}
-use Rattle.geometry.specs.Parts.{front, moved, next, done_from, Inside, Ordered, after}
+use Rattle.geometry.specs.Parts.{moved, next, done_from, Inside, Ordered, after}
 use Rattle.geometry.proofs.Tests.{same_bool, within_in, within_yes, within_before, within_past, within_out}
-use Rattle.geometry.proofs.Tabulate.{get_or-front}
+use Rattle.geometry.proofs.Tabulate.{table_of}
 use Rattle.geometry.proofs.Painted.{painted_same, none_painted, length_mid, get_or_mid, get_or_mid_back, put_painted, Adds, Done, done_off, done_more}
 
 -- ---- a pixel and its place
@@ -134,20 +135,34 @@ rows_none width x y w new old = record {
 
 -- ---- copies
 
--- the line has the source in front, and the destination was lent and is back as row
-pub row_moved : (s line line₀ row : List ℕ) (from to n : ℕ) (f : ℕ → ℕ → ℕ) → from + n ≤ length s → to + n ≤ length s
-    → line ≡ front (length (mid_of from n s)) (λ i. get_or (mid_of from n s) i 0) line₀
+-- the line is the source, and the destination was lent and is back as row
+pub row_moved : (s line row : List ℕ) (from to n : ℕ) (f : ℕ → ℕ → ℕ) → from + n ≤ length s → to + n ≤ length s
+    → line ≡ mid_of from n s
     → row ≡ tabulate (length (mid_of to n s)) (λ i. f (get_or line i 0) (get_or (mid_of to n s) i 0))
     → put_mid to n s row ≡ moved from to n f s
 unfolding moved
-row_moved s line line₀ row from to n f hf ht is-line is_row =
+row_moved s line row from to n f hf ht is-line is_row =
     put_painted s row to n _ ht is_row
     ∙ painted_same (within to n) _ _ s (λ k h t.
     let b = within_in to n k t in
     let e : from + (k - to) ≡ k - to + from = omega arith in
-    let p : get_or line (k - to) 0 ≡ get_or s (k - to + from) 0 =
-    rw (is-line, length_mid s [] from n hf, get_or-front n (λ i. get_or (mid_of from n s) i 0) line₀ (k - to) (omega arith), get_or_mid s [] from n hf (k - to) (omega arith), e) in
+    let p : get_or line (k - to) 0 ≡ get_or s (k - to + from) 0 = rw (is-line, get_or_mid s [] from n hf (k - to) (omega arith), e) in
     rw (p, get_or_mid_back s to n ht k t))
+
+-- the source goes through the front of a line
+pub line_moved : (s line₀ line row : List ℕ) (from to n : ℕ) → from + n ≤ length s → to + n ≤ length s
+    → line ≡ mid_of from n s → row ≡ take n (put_mid 0 n line₀ line) → put_mid to n s row ≡ moved from to n (λ s d. s) s
+line_moved s line₀ line row from to n hf ht is-line is-row =
+    let len : length line ≡ n = ap length is-line ∙ length_mid s [] from n hf in
+    let same : row ≡ line = is-row ∙ (rw len at (take-append_seam line (post_of 0 n line₀))) in
+    let table : row ≡ tabulate (length (mid_of to n s)) (λ i. get_or line i 0) = rw (same, length_mid s [] to n ht, ← len) (table_of line) in
+    row_moved s line row from to n (λ s d. s) hf ht is-line table
+
+-- no pixel moves
+pub none_moved : (from to : ℕ) (f : ℕ → ℕ → ℕ) (s : List ℕ) → s ≡ moved from to 0 f s
+unfolding moved
+none_moved from to f s =
+    sym (none_painted _ _ s (λ k h. cases (within to 0 k) (λ t. let b = within_in to 0 k t in absurd (omega arith)) (λ o. o)))
 
 -- the next k of the sources are none of the destinations done so far
 apart : (back : Bool) (from to n done k p : ℕ) → Ordered back from to → done + k ≤ n → within (from + next back n done k) k p ≡ true

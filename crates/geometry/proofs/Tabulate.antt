@@ -6,10 +6,9 @@ use Prim.Native.Nat.{ℕ, zero, suc, ◌+◌, ◌≤◌, ◌<◌}
 use native.Mathlib.Nat.{not-suc-le-zero, le_of_suc-le-suc}
 use native.Mathlib.Numerals.{add-one}
 use native.Mathlib.Omega.{arith}
-use lib.ListN.{length, get_or, set, drop, length-set, get_or-append}
+use lib.ListN.{length, get_or, set, drop, length-set}
 use lib.Seq.{ext_get_or, drop-length}
 use Rattle.geometry.specs.Pixels.{tabulate}
-use Rattle.geometry.specs.Parts.{front}
 
 pub length-tabulate : (n : ℕ) (f : ℕ → ℕ) → length (tabulate n f) ≡ n
 unfolding tabulate
@@ -27,6 +26,9 @@ pub is_tabulate : (l : List ℕ) (n : ℕ) (f : ℕ → ℕ) → length l ≡ n 
 is_tabulate l n f e h =
     ext_get_or 0 l (tabulate n f) (e ∙ sym (length-tabulate n f))
     (λ k lt. let b : k < n = omega arith in h k b ∙ sym (get_or-tabulate n f k b))
+
+pub table_of : (l : List ℕ) → l ≡ tabulate (length l) (λ k. get_or l k 0)
+table_of l = is_tabulate l (length l) (λ k. get_or l k 0) refl (λ k h. refl)
 
 -- ---- a loop that stores f 0, f 1, .. over d from the front: its invariant, and what a turn and the end ask
 
@@ -46,9 +48,6 @@ unfolding tabulate
 front_at i f [] h = absurd (not-suc-le-zero h)
 front_at zero f (x ∷ d) h = refl
 front_at (suc i) f (x ∷ d) h = front_at i (λ k. f (suc k)) d (le_of_suc-le-suc h)
-
-pub get_or-front : (n : ℕ) (f : ℕ → ℕ) (d : List ℕ) (k : ℕ) → k < n → get_or (front n f d) k 0 ≡ f k
-get_or-front n f d k h = get_or-append (tabulate n f) (drop n d) 0 k (omega (arith, length-tabulate n f)) ∙ get_or-tabulate n f k h
 
 pub front_start : (f : ℕ → ℕ) (d : List ℕ) → Front f d d 0
 unfolding tabulate
@@ -70,3 +69,5 @@ module _ {f : ℕ → ℕ} {d row : List ℕ} {i : ℕ} (now : Front f d row i) 
   front_end h =
       let e : i ≡ length d = omega (arith, now.same, now.below) in
       rw (now.is, e, drop-length, append-nil)
+
+pub ruleset front_loop = (front_start, front_read, front_step, front_end)

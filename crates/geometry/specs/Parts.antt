@@ -1,10 +1,6 @@
 -- Rows and parts of rows: what the inner functions of the painters do. Nothing here has to be believed.
-use Rattle.std.specs.Prelude.{ℕ, ◌+◌, ◌-◌, ◌*◌, ◌≤◌, List, ◌++◌, Bool, true, false, cond, eqb, ltb, get_or, drop}
-use Rattle.geometry.specs.Pixels.{within, tabulate, painted}
-
--- The first n of the list are f 0 to f (n - 1).
-abbrev pub front : ℕ → (ℕ → ℕ) → List ℕ → List ℕ
-front n f old = tabulate n f ++ drop n old
+use Rattle.std.specs.Prelude.{ℕ, ◌+◌, ◌-◌, ◌*◌, ◌≤◌, List, Bool, true, false, cond, eqb, ltb, get_or}
+use Rattle.geometry.specs.Pixels.{within, painted}
 
 -- The n places from to on get f of those from from on and what stood there, all read first.
 unfoldable pub moved : ℕ → ℕ → ℕ → (ℕ → ℕ → ℕ) → List ℕ → List ℕ

@@ -1,17 +1,9 @@
 -- The id gates nothing but what register 0 reads: on worlds that differ in it alone every other call answers, paints and leaves the same.
 -- Assumes nothing.
-use mathlib.Core.Path.{◌≡◌, refl, sym, ap, ap₂, subst, ◌∙◌}
-use mathlib.Core.Bool.{Bool, true, false, cond, ◌&&◌, ◌||◌}
-use mathlib.Core.List.{List, [], ◌∷◌}
-use Prim.Native.Nat.{ℕ, ◌/◌}
-use lib.Dec.{eqb, leb, ltb}
-use lib.ListN.{length}
-use borrow.Author.Tests.{ne_eqb}
+use Rattle.std.proofs.Common.{Option, None, Some, ◌≡◌, refl, sym, ap, ap₂, subst, ◌∙◌, Bool, true, false, cond, ◌&&◌, ◌||◌, List, [], ◌∷◌, ℕ, ◌/◌, eqb, leb, ltb, length, ne_eqb}
+use Rattle.cursor.specs.declared.Shape.{Shape}
 use borrow.Table.Steps.{cases}
-use Rattle.cursor.specs.declared.Defined.{Defined}
-use Rattle.cursor.specs.declared.Defined.TheVariants.{Undefined, Cursor}
-use Rattle.ring.specs.declared.Acceptance.{Acceptance}
-use Rattle.ring.specs.declared.Acceptance.TheVariants.{Accepted, Refused}
+use Rattle.ring.specs.declared.Ring.{Ring}
 use Rattle.ring.specs.Acceptance.{accepted}
 use Rattle.register.specs.declared.Register.{Register}
 use Rattle.register.specs.declared.Register.TheVariants.{Writes, Reads, Absent}
@@ -82,10 +74,10 @@ module _ (d : Device) (id : ℕ) where
   refused_write_other : (a : ℕ) → SameWrite (refused a d) (refused a other)
   refused_write_other a = record { answer = refl; device = refl }
 
-  accepted_other : (a : Acceptance) → SameWrite (accepted_written d a) (accepted_written other a)
+  accepted_other : (a : Option Ring) → SameWrite (accepted_written d a) (accepted_written other a)
   unfolding accepted_written
-  accepted_other (Accepted g) = record { answer = refl; device = refl }
-  accepted_other Refused = refused_write_other 33
+  accepted_other (Some g) = record { answer = refl; device = refl }
+  accepted_other None = refused_write_other 33
 
   module _ (ring : List ℕ) (v : ℕ) where
     ring_other : SameWrite (ring_written d ring) (ring_written other ring)
@@ -159,10 +151,10 @@ module _ (d : Device) (id : ℕ) where
 
   -- ---- pictures
 
-  over_other : (c : Defined) → cursor_over other c ≡ cursor_over d c
+  over_other : (c : Option Shape) → cursor_over other c ≡ cursor_over d c
   unfolding cursor_over
-  over_other Undefined = refl
-  over_other (Cursor s) = refl
+  over_other None = refl
+  over_other (Some s) = refl
 
   picture_other : (screen image output : List ℕ) → picture_of other screen image output ≡ picture_of d screen image output
   unfolding picture_of

@@ -1,14 +1,7 @@
 -- Demand 1: no call does harm, whatever the device, the lent memories and the calls before; and every history keeps a device well-formed.
 -- Assumes nothing.
-use mathlib.Core.Path.{◌≡◌, refl, sym, ap, subst, ◌∙◌}
-use mathlib.Core.Bool.{Bool, true, false}
-use mathlib.Core.List.{List, [], ◌∷◌}
-use mathlib.Core.Logic.{◌↔◌, ◌⊎◌, inl, inr, ⊎_elim}
-use Prim.Native.Nat.{ℕ, zero, suc, ◌*◌, ◌≤◌, ◌<◌}
-use native.Mathlib.Omega.{arith}
-use lib.Dec.{eqb, ltb}
-use lib.ListN.{length, get_or, get_or-eq_default}
-use borrow.Author.Tests.{ltb-true, ltb-false, leb-true, eq-eqb}
+use Rattle.std.proofs.Common.{Option, Err, Ok, Result, ◌≡◌, refl, sym, ap, subst, ◌∙◌, Bool, true, false, List, [], ◌∷◌, ◌↔◌, ◌⊎◌, inl, inr, ⊎_elim, ℕ, zero, suc, ◌*◌, ◌≤◌, ◌<◌, arith, eqb, ltb, length, get_or, ltb-true, ltb-false, leb-true, eq-eqb}
+use lib.ListN.{get_or-eq_default}
 use borrow.Table.Steps.{cases}
 use Rattle.execution.specs.declared.End.TheVariants.{Drained, Waiting, Fault}
 use Rattle.execution.specs.declared.Cause.TheVariants.{NotOffered, BadOperand, TooLong, BadNext}
@@ -17,8 +10,8 @@ use Rattle.ring.specs.declared.Ring.{Ring}
 use Rattle.ring.specs.Acceptance.{Usable}
 use Rattle.ring.specs.Append.{can_append, append_to, append_of}
 use Rattle.ring.proofs.AppendLaws.{append-refused, append-usable}
-use Rattle.writer.specs.declared.WriterAnswer.{WriterAnswer}
-use Rattle.writer.specs.declared.WriterAnswer.TheVariants.{Taken, LentLength, RingRefused, NoRoom, NotACommand}
+use Rattle.writer.specs.declared.WriterError.{WriterError}
+use Rattle.writer.specs.declared.WriterError.TheVariants.{LentLength, RingRefused, NoRoom, NotACommand}
 use Rattle.writer.specs.Writing.{Command, command_words, free_words, append_all, Written, writer_number, write_of}
 use Rattle.writer.proofs.RoomLaws.{room}
 use Rattle.writer.proofs.Appending.{length-append_all, append_all_elsewhere, by_write, write_answers as writer-answers}
@@ -26,7 +19,7 @@ use Rattle.register.specs.declared.Register.{Register}
 use Rattle.register.specs.declared.Register.TheVariants.{Writes, Reads, Absent}
 use Rattle.register.specs.declared.Writable.TheVariants.{Enable, ConfigDone, Sync, CursorOn}
 use Rattle.register.specs.Numbers.{register_of}
-use Rattle.picture.specs.declared.Overlay.{Overlay}
+use Rattle.picture.specs.declared.VisibleCursor.{VisibleCursor}
 use Rattle.picture.specs.Picture.{composed}
 use Rattle.picture.proofs.Laws.{length-composed, beyond_stays}
 use Rattle.effect.specs.Effects.{Machine}
@@ -121,12 +114,12 @@ append-answers : (word : ℕ) (w : World) → among (perform (append word) w).an
 unfolding perform append_of
 append-answers word w = cases (can_append w.lent.ring) (λ t. rw t) (λ f. rw f)
 
-writer_row : (c : Command) (a : WriterAnswer) → among (writer_number a) (row (submit c)) ≡ true
-writer_row c Taken = refl
-writer_row c LentLength = refl
-writer_row c RingRefused = refl
-writer_row c NoRoom = refl
-writer_row c NotACommand = refl
+writer_row : (c : Command) (a : Result (Unit {0}) WriterError) → among (writer_number a) (row (submit c)) ≡ true
+writer_row c (Ok tt) = refl
+writer_row c (Err LentLength) = refl
+writer_row c (Err RingRefused) = refl
+writer_row c (Err NoRoom) = refl
+writer_row c (Err NotACommand) = refl
 
 submit_answers : (c : Command) (w : World) → among (perform (submit c) w).answer (row (submit c)) ≡ true
 unfolding perform
@@ -301,7 +294,7 @@ module _ (w : World) where
   unfolding perform
   submit_changes c = record { ring = submit_ring m.ring c; device = refl; others = refl; output = refl }
 
-  composed_changes : (over : Overlay) → well_formed d ≡ true → SameBut (InMode w) w.output (composed (width_of d) (height_of d) over m.screen m.cursor w.output)
+  composed_changes : (over : Option VisibleCursor) → well_formed d ≡ true → SameBut (InMode w) w.output (composed (width_of d) (height_of d) over m.screen m.cursor w.output)
   composed_changes over y =
       let width = width_of d in
       let height = height_of d in

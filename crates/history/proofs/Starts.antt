@@ -1,14 +1,7 @@
 -- The start of demand 3: it is reached, from any sizes, mode and empty ring; which calls keep it; and document 01's own words for it give it.
 -- Assumes nothing.
-use mathlib.Core.Path.{◌≡◌, refl, sym, ap, ◌∙◌}
-use mathlib.Core.Bool.{Bool, true, false, ◌&&◌, true≢false}
-use mathlib.Core.List.{List, [], ◌∷◌}
-use mathlib.Core.Logic.{⊎_elim}
-use Prim.Native.Nat.{ℕ, ◌*◌, ◌/◌, ◌≤◌}
-use native.Mathlib.Omega.{arith}
-use lib.Dec.{eqb}
-use lib.ListN.{length}
-use borrow.Author.Tests.{eqb-true, eqb-false, eq-eqb, ne_eqb, le-leb}
+use Rattle.std.proofs.Common.{◌≡◌, refl, sym, ap, ◌∙◌, Bool, true, false, true≢false, List, [], ◌∷◌, ⊎_elim, ℕ, ◌*◌, ◌/◌, ◌≤◌, arith, eqb, length, eqb-true, eq-eqb, le-leb}
+use borrow.Author.Tests.{eqb-false}
 use borrow.Table.Steps.{cases}
 use Rattle.geometry.proofs.Tests.{both}
 use Rattle.ring.specs.Acceptance.{min_of, max_of, next_of, stop_of, usable}
@@ -16,9 +9,8 @@ use Rattle.ring.specs.Append.{can_append, append_of}
 use Rattle.ring.proofs.AppendLaws.{append-refused}
 use Rattle.writer.proofs.Appending.{write_refused}
 use Rattle.register.specs.declared.Register.TheVariants.{Writes}
-use Rattle.register.specs.declared.Writable.{Writable}
 use Rattle.register.specs.declared.Writable.TheVariants.{Enable, Width, Height, ConfigDone}
-use Rattle.register.specs.Numbers.{numbers, register_of, number_of}
+use Rattle.register.specs.Numbers.{numbers, register_of}
 use Rattle.effect.specs.declared.Marks.{Marks}
 use Rattle.device.specs.declared.Device.{Device}
 use Rattle.device.specs.declared.Sizes.{Sizes}
@@ -33,7 +25,7 @@ use Rattle.device_run.specs.Run as R
 use Rattle.device_run.specs.Run.{RunOutcome, lent_good}
 use Rattle.device.proofs.Laws.{well_formed_lem}
 use Rattle.device.proofs.Kept.{fresh_well_formed}
-use Rattle.register_write.proofs.Effects.{is, is_other, only_own, width_stored, height_stored, enable_sets}
+use Rattle.register_write.proofs.Effects.{is_other, only_own, width_stored, height_stored, enable_sets}
 use Rattle.register_write.proofs.Kept.{remembered, effect_taken, ring_taken, written_well_formed, part_kept, sizes_kept, marks_kept}
 use Rattle.register_write.proofs.Refusals.{refused_changes_nothing, ill_formed_write, only}
 use Rattle.adapter.proofs.Refusals.{refused_picture}

@@ -1,6 +1,5 @@
 -- One history: every public call, with the memories that it is lent, and what it answers and leaves.
-use Rattle.std.specs.Prelude.{ℕ, cond, List, [], ◌∷◌}
-use Rattle.std.proofs.Math.Option.{Option, none, some}
+use Rattle.std.specs.Prelude.{ℕ, cond, List, [], ◌∷◌, Option, Some, None}
 use Rattle.ring.specs.Append.{append_of}
 use Rattle.writer.specs.Writing.{Command, write_of}
 use Rattle.device.specs.declared.Device.{Device}
@@ -41,8 +40,8 @@ with_device w d = record { device = d; lent = w.lent; output = w.output }
 
 -- a device made anew, or "making yields no device" and the old one stays
 abbrev pub given : Device → Option Device → Device
-given d none = d
-given d (some new) = new
+given d None = d
+given d (Some new) = new
 
 abbrev pub created : World → Creation → CallOutcome
 created w c = record { answer = c.answer; values = []; world = with_device w (given w.device c.device) }

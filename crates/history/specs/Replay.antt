@@ -1,13 +1,11 @@
 -- A list of appends and runs as words, through the public calls.
-use Rattle.std.specs.Prelude.{ℕ, ◌≡◌, true, false, cond, List, [], ◌∷◌, map, eqb}
+use Rattle.std.specs.Prelude.{ℕ, ◌≡◌, true, false, cond, List, [], ◌∷◌, map, eqb, Option, Some, None}
 use Rattle.execution.specs.Claim.{Op}
 use Rattle.execution.specs.Claim as C
 use Rattle.ring.specs.declared.Ring.{Ring}
 use Rattle.device.specs.declared.Device.{Device}
 use Rattle.device.specs.declared.Condition.TheVariants.{Running}
 use Rattle.device.specs.Device.{condition_of}
-use Rattle.history.specs.declared.Replayed.{Replayed}
-use Rattle.history.specs.declared.Replayed.TheVariants.{Refused, Done}
 use Rattle.device_run.specs.Run.{Lent}
 use Rattle.history.specs.Calls.{World, CallOutcome, History, perform_all}
 use Rattle.history.specs.Demand.{is_start, call_of, Shown}
@@ -65,7 +63,7 @@ pub record Refuses (w₀ : World) (list₀ list : List ℕ) (l : Lent) : Type 0 
   pub same_list : list ≡ list₀
   pub same_memories : l ≡ w₀.lent
 
--- What a replay answers and leaves.
-abbrev pub ReplayResult : World → List ℕ → Replayed → List ℕ → Lent → Type 0
-ReplayResult w₀ list₀ Refused list l = Refuses w₀ list₀ list l
-ReplayResult w₀ list₀ (Done d) list l = Replays w₀ list₀ list (world d l)
+-- What a replay answers, the device or none where the list was not begun, and leaves.
+abbrev pub ReplayResult : World → List ℕ → Option Device → List ℕ → Lent → Type 0
+ReplayResult w₀ list₀ None list l = Refuses w₀ list₀ list l
+ReplayResult w₀ list₀ (Some d) list l = Replays w₀ list₀ list (world d l)

@@ -3,40 +3,27 @@
 
 ghost use Rattle.std.specs.Prelude.{◌≡◌};
 ghost use Rattle.device.specs.declared.Condition.TheVariants.{Running};
-ghost use Rattle.device_run.specs.Run.{lent};
+ghost use Rattle.device_run.specs.Run.{lent, contents, SameMemories};
 ghost use Rattle.history.specs.Demand.{ring_at_start, is_start};
 ghost use Rattle.history.specs.Replay.{world, walk, walk_of, ReplayResult};
 ghost use Rattle.history.specs.Pairs.{performed, pair_of};
 
-use adapter::{Condition, Device};
+use adapter::{Condition, Device, Memories};
 use ring::Ring;
-
-// The device as the list left it, or that the list was not begun.
-#[derive(Clone, Copy)]
-pub enum Replayed {
-    Refused,
-    Done(Device),
-}
 
 // Whether the ring words say what is remembered, with nothing waiting.
 #[tactic(auto, using(ring::proofs::Laws::usable_when), unfolding(crate::specs::Demand::ring_at_start))]
 fn ring_at_start(ring: &[u32], g: Ring) -> bool
     ensures { result ≡ ring_at_start ring.now (Running g) }
 {
-    let usable = ring::is_usable(ring);
-    if !usable {
+    let &[min, max, next, stop, ..] = ring else {
         return false;
-    }
-    if ring[0] / 4 != g.min {
-        return false;
-    }
-    if ring[1] / 4 != g.max {
-        return false;
-    }
-    if ring[3] / 4 != g.stop {
-        return false;
-    }
-    ring[2] == ring[3]
+    };
+    ring::is_usable(ring)
+        && min / 4 == g.min
+        && max / 4 == g.max
+        && stop / 4 == g.stop
+        && next == stop
 }
 
 #[tactic(auto, unfolding(crate::specs::Demand::ring_at_start))]
@@ -44,14 +31,14 @@ fn condition_at_start(ring: &[u32], condition: Condition) -> bool
     ensures { result ≡ ring_at_start ring.now condition }
 {
     match condition {
-        Condition::Idle => false,
         Condition::Running(g) => ring_at_start(ring, g),
-        Condition::Faulted(_) => false,
+        Condition::Idle | Condition::Faulted(_) => false,
     }
 }
 
-// Whether a device and its memories are a start of demand 3.
+// Whether a device and its memories are a start of demand 3. It only reads, so the memories come one by one, as in `device_run::is_ready`.
 // Rules out: a start with a word waiting; a start with a fault that stands.
+#[tactic(auto, using(crate::proofs::StartTest::start_parts))]
 pub fn is_start(
     d: Device,
     ring: &[u32],
@@ -61,15 +48,23 @@ pub fn is_start(
 ) -> bool
     ensures { result ≡ is_start (world d (lent ring.now framebuffer.now screen.now cursor.now)) }
 {
-    let ready = adapter::is_ready(d, ring, framebuffer, screen, cursor);
-    if !ready {
-        return false;
-    }
-    let condition = adapter::condition_of(d);
-    condition_at_start(ring, condition)
+    adapter::is_ready(d, ring, framebuffer, screen, cursor)
+        && condition_at_start(ring, adapter::condition_of(d))
 }
 
-// What one operation of a list answered, and the device then.
+fn can_start(d: Device, memories: &Memories<'_>) -> bool
+    ensures { result ≡ is_start (world d (contents memories.now)) }
+{
+    is_start(
+        d,
+        memories.ring,
+        memories.framebuffer,
+        memories.screen,
+        memories.cursor,
+    )
+}
+
+// The two numbers that replace a pair in the list, and the device then.
 #[derive(Clone, Copy)]
 struct Performed {
     answer: u32,
@@ -77,80 +72,62 @@ struct Performed {
     device: Device,
 }
 
-fn perform_pair(
-    kind: u32,
-    operand: u32,
-    d: Device,
-    ring: &mut [u32],
-    framebuffer: &[u32],
-    screen: &mut [u32],
-    cursor: &mut [u32],
-) -> Performed
-    ensures { performed result (lent ring.new framebuffer.now screen.new cursor.new)
-        ≡ pair_of kind operand (world d (lent ring.old framebuffer.now screen.old cursor.old)) }
+// The kind is a number and no enum, since it is a word of the lent list, in which every number stands for an operation.
+#[tactic(auto, unfolding(crate::specs::Pairs::pair_of, crate::specs::Replay::op_of, crate::specs::Calls::perform))]
+fn perform_pair(kind: u32, operand: u32, d: Device, memories: &mut Memories<'_>) -> Performed
+    ensures performed { performed result (contents memories.new) ≡ pair_of kind operand (world d (contents memories.old)) }
+    ensures same { SameMemories memories.new memories.old }
 {
     if kind == 0 {
-        let taken = ring::append(ring, operand);
+        let answer = match ring::append(memories.ring, operand) {
+            Ok(()) => 0,
+            Err(refused) => u32::from(refused),
+        };
         return Performed {
-            answer: ring::append_number(taken),
+            answer,
             count: 0,
             device: d,
         };
     }
-    let ran = adapter::run(d, ring, framebuffer, screen, cursor, operand);
-    let answer = ran.answer;
-    let number = adapter::run_number(answer);
-    let device = ran.device;
-    Performed {
-        answer: number,
-        count: ran.count,
-        device,
+    match adapter::run(d, memories, operand) {
+        Ok(ran) => Performed {
+            answer: adapter::run_number(ran.end),
+            count: ran.count,
+            device: ran.device,
+        },
+        Err(refused) => Performed {
+            answer: u32::from(refused),
+            count: 0,
+            device: d,
+        },
     }
 }
 
-// Every pair of the list is performed and replaced by its number and count.
-fn walk(
-    list: &mut [u32],
-    device: Device,
-    ring: &mut [u32],
-    framebuffer: &[u32],
-    screen: &mut [u32],
-    cursor: &mut [u32],
-) -> Device
-    ensures { walk list.new (world result (lent ring.new framebuffer.now screen.new cursor.new))
-        ≡ walk_of list.old (world device (lent ring.old framebuffer.now screen.old cursor.old)) }
+// Every pair of the list is performed and replaced by its number and count. By their places: of what chunks_exact_mut lends a proof knows the length alone.
+fn walk(list: &mut [u32], device: Device, memories: &mut Memories<'_>) -> Device
+    ensures walked { walk list.new (world result (contents memories.new)) ≡ walk_of list.old (world device (contents memories.old)) }
+    ensures same { SameMemories memories.new memories.old }
 {
     let mut d = device;
-    let mut i = 0;
-    while 2 <= list.len() - i {
-        let p = perform_pair(list[i], list[i + 1], d, ring, framebuffer, screen, cursor);
-        let next = p.device;
-        list[i] = p.answer;
-        list[i + 1] = p.count;
-        d = next;
-        i += 2;
+    for i in 0..list.len() / 2 {
+        let p = perform_pair(list[2 * i], list[2 * i + 1], d, memories);
+        list[2 * i] = p.answer;
+        list[2 * i + 1] = p.count;
+        d = p.device;
     }
     d
 }
 
 // A list of pairs of words, kind and operand, from a start of demand 3: kind 0 appends the operand, every other runs with that budget. Each pair is
-// replaced by the number that its call answered and its count, an append's 0; a last word without a partner stays.
+// replaced by the number that its call answered and its count, an append's 0; a last word without a partner stays. The answer is the device then, or none
+// where the list was not begun.
 // Rules out: a run that counts without executing; a list whose answers are those of another order of work.
-pub fn replay(
-    list: &mut [u32],
-    device: Device,
-    ring: &mut [u32],
-    framebuffer: &[u32],
-    screen: &mut [u32],
-    cursor: &mut [u32],
-) -> Replayed
-    ensures { ReplayResult (world device (lent ring.old framebuffer.now screen.old cursor.old)) list.old
-        result list.new (lent ring.new framebuffer.now screen.new cursor.new) }
+pub fn replay(list: &mut [u32], device: Device, memories: &mut Memories<'_>) -> Option<Device>
+    ensures replayed { ReplayResult (world device (contents memories.old)) list.old result list.new (contents memories.new) }
+    ensures same { SameMemories memories.new memories.old }
 {
-    let start = is_start(device, ring, framebuffer, screen, cursor);
-    if !start {
-        return Replayed::Refused;
+    if !can_start(device, memories) {
+        return None;
     }
-    let left = walk(list, device, ring, framebuffer, screen, cursor);
-    Replayed::Done(left)
+    Some(walk(list, device, memories))
 }

@@ -7,7 +7,7 @@ ghost use Rattle.offscreen.specs.Offscreen.{ceiling, offscreen_of};
 use device::{Device, is_well_formed};
 
 // The edges of a rectangle; right and bottom are excluded.
-#[derive(Clone, Copy)]
+#[derive(Clone, Copy, PartialEq, Eq, Default)]
 pub struct Edges {
     pub left: u32,
     pub top: u32,
@@ -21,13 +21,11 @@ fn edges_of(width: u32, height: u32, pixels: u32) -> Edges
     ensures { result ≡ record { left = 0; top = ceiling (4 * width * height) (4 * width); right = 8 * (4 * width) / 32; bottom = 4 * pixels / (4 * width) } }
 {
     let line = 4 * width;
-    let size = 4 * width * height;
-    let vram = 4 * pixels;
     Edges {
         left: 0,
-        top: (size + line - 1) / line,
+        top: (4 * width * height + line - 1) / line,
         right: 8 * line / 32,
-        bottom: vram / line,
+        bottom: 4 * pixels / line,
     }
 }
 
@@ -37,16 +35,8 @@ fn edges_of(width: u32, height: u32, pixels: u32) -> Edges
 pub fn offscreen(d: Device) -> Edges
     ensures { result ≡ offscreen_of d }
 {
-    let good = is_well_formed(d);
-    if !good {
-        return Edges {
-            left: 0,
-            top: 0,
-            right: 0,
-            bottom: 0,
-        };
+    if !is_well_formed(d) {
+        return Edges::default();
     }
-    let sizes = d.sizes;
-    let g = d.registers;
-    edges_of(g.width, g.height, sizes.pixels)
+    edges_of(d.registers.width, d.registers.height, d.sizes.pixels)
 }

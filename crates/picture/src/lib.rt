@@ -1,80 +1,47 @@
 // A finished picture: the screen's rows, with the cursor over them.
 #![tactic(auto)]
 
-ghost use Rattle.std.specs.Prelude.{◌≡◌, ◌&&◌, ◌*◌, leb};
-ghost use Rattle.raster.specs.Painters.{rows_fit};
+ghost use Rattle.std.specs.Prelude.{◌≡◌};
 ghost use Rattle.picture.specs.Picture.{composed};
 
 use cursor::Shape;
-use geometry::Rect;
-use raster::MAX_WIDTH;
+use geometry::{Grid, Point, Rect};
 
-// The cursor that is visible, at a position.
-#[derive(Clone, Copy)]
+// The cursor that is visible, at a position: x and y are registers, read as two's complement by the cursor plane.
+#[derive(Clone, Copy, PartialEq, Eq)]
 pub struct VisibleCursor {
     pub shape: Shape,
     pub x: u32,
     pub y: u32,
 }
 
-#[derive(Clone, Copy)]
-pub enum Overlay {
-    Nothing,
-    Cursor(VisibleCursor),
-}
-
-// The rows lie in the output and in the screen, which have these lengths.
-#[tactic(auto, unfolding(raster::specs::Painters::rows_fit))]
-fn rows_lent(width: u32, rows: u32, output: usize, screen: usize) -> bool
-    ensures { result ≡ (rows_fit width rows output && leb (width * rows) screen) }
-{
-    if width <= 0 {
-        return false;
-    }
-    if MAX_WIDTH < width {
-        return false;
-    }
-    let size = width as usize * rows as usize;
-    if output < size {
-        return false;
-    }
-    size <= screen
-}
-
 // The screen's rows in the output, and the cursor over them.
 // Rules out: the bare screen where a cursor covers it; words of the output behind the rows changed.
+#[tactic(auto, using(crate::proofs::Laws::outside_output, crate::proofs::Laws::outside_screen, crate::proofs::Laws::bare, crate::proofs::Laws::with_cursor))]
 pub fn compose(
     screen: &[u32],
     image: &[u32],
     output: &mut [u32],
-    width: u32,
-    rows: u32,
-    over: Overlay,
+    grid: Grid,
+    over: Option<VisibleCursor>,
 )
-    ensures { output.new ≡ composed width rows over screen.now image.now output.old }
+    ensures { output.new ≡ composed grid.width grid.rows over screen.now image.now output.old }
 {
-    let fits = rows_lent(width, rows, output.len(), screen.len());
-    if !fits {
+    if !raster::lies_in(grid, output.len()) || !raster::lies_in(grid, screen.len()) {
         return;
     }
-    raster::update(
-        screen,
-        output,
-        width,
-        rows,
-        Rect {
-            x: 0,
-            y: 0,
-            w: width,
-            h: rows,
-        },
-    );
-    match over {
-        Overlay::Nothing => {
-            return;
-        }
-        Overlay::Cursor(shown) => {
-            cursor::overlay(output, width, rows, image, shown.shape, shown.x, shown.y);
-        }
+    let all = Rect {
+        x: 0,
+        y: 0,
+        w: grid.width,
+        h: grid.rows,
+    };
+    raster::update(screen, output, grid, all);
+    if let Some(shown) = over {
+        let at = Point {
+            x: shown.x,
+            y: shown.y,
+        };
+        cursor::overlay(output, grid, image, shown.shape, at);
     }
 }

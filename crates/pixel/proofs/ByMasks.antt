@@ -35,7 +35,7 @@ reduced rop s fits =
           (λ x y h k. picked (raster_bit rop x) (r.bit x 1 h (omega arith)) (r.bit x 0 h (omega arith)) y k) 32 s d fits;
     }
 
--- masks of an operation's number, as `pixel::reduce` returns them, make of each destination what the named operation makes of it
+-- masks of an operation's number, as `Reduced::of` returns them, make of each destination what the named operation makes of it
 pub reduced_is : (o : Operation) {s keep flip : ℕ} → Reduces (entry o).number s keep flip → (d : ℕ) → s < 2 ^ 32 → d < 2 ^ 32
     → reduce_pixel keep flip d ≡ (entry o).words s d
 reduced_is o {s} masks d h k = masks.agrees d k ∙ named_is o s d h k
@@ -129,6 +129,6 @@ merged_words rop s d h k =
 pub merged : (rop : ℕ) → Merges rop (masks_of rop)
 merged rop = record { agrees = merged_words rop }
 
--- as above, for masks as `pixel::masks_of` returns them
+-- as above, for masks as `Masks::of` returns them
 pub merged_is : (o : Operation) {m : Masks} → Merges (entry o).number m → (s d : ℕ) → s < 2 ^ 32 → d < 2 ^ 32 → merge_pixel m s d ≡ (entry o).words s d
 merged_is o masks s d h k = masks.agrees s d h k ∙ named_is o s d h k

@@ -86,3 +86,5 @@ nand_is = named_is nand
 
 pub set_is : (s d : ℕ) → s < 2 ^ 32 → d < 2 ^ 32 → raster_op 15 s d ≡ 2 ^ 32 - 1
 set_is = named_is set
+
+pub ruleset spelled_out = (clear_is, and_is, and_reverse_is, copy_is, and_inverted_is, noop_is, xor_is, or_is, nor_is, equiv_is, invert_is, or_reverse_is, copy_inverted_is, or_inverted_is, nand_is, set_is)

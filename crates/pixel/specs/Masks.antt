@@ -1,5 +1,5 @@
 -- The raster operations by masks, as the functions for row loops compute them. `Reduces` and `Merges` say that masks give `raster_op`, and the contracts of
--- `reduce_pixel` and `merge_pixel` that what these return is it, whatever the formula.
+-- `Reduced::apply` and `Masks::apply` that what these return is it, whatever the formula.
 use Rattle.std.specs.Prelude.{◌≡◌, cond, ℕ, ◌^◌, ◌<◌, eqb}
 use Rattle.std.specs.Int.Bits.{bit_and, bit_xor}
 use Rattle.pixel.specs.declared.Masks.{Masks}

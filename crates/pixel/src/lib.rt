@@ -39,8 +39,10 @@ pub const NAND: u32 = 14;
 
 pub const SET: u32 = 15;
 
-// An operation on words, s the source and d the destination. A number above 15 is none of them and leaves d.
+// An operation on words, s the source and d the destination. A number above 15 is none of them and leaves d: C and the contracts of the
+// painters take any (`raster/Laws.fill_no_operation`), so it is a number and no enum.
 // Rules out: an operation with s and d exchanged (AND_REVERSE for AND_INVERTED); one that treats 16 as 0.
+#[tactic(auto, using(crate::proofs::Named::spelled_out, crate::proofs::Laws::no_operation))]
 pub fn raster_op(rop: u32, s: u32, d: u32) -> u32
     ensures { result ≡ raster_op rop s d }
 {
@@ -66,36 +68,40 @@ pub fn raster_op(rop: u32, s: u32, d: u32) -> u32
 }
 
 // An operation at one source: of the destination the bits of keep, then those of flip turned over.
-#[derive(Clone, Copy)]
+#[derive(Clone, Copy, PartialEq, Eq)]
 pub struct Reduced {
     pub keep: u32,
     pub flip: u32,
 }
 
-// The masks give the operation's result for every destination.
-// Rules out: masks that hold for a destination of 0 alone; keep and flip exchanged.
-pub fn reduce(rop: u32, s: u32) -> Reduced
-    ensures { Reduces rop s result.keep result.flip }
-{
-    let flip = raster_op(rop, s, 0);
-    let full = raster_op(rop, s, 0xFFFF_FFFF);
-    Reduced {
-        keep: full ^ flip,
-        flip,
+impl Reduced {
+    // The masks give the operation's result for every destination.
+    // Rules out: masks that hold for a destination of 0 alone; keep and flip exchanged.
+    #[tactic(auto, using(crate::proofs::ByMasks::reduced))]
+    pub fn of(rop: u32, s: u32) -> Reduced
+        ensures { Reduces rop s result.keep result.flip }
+    {
+        let flip = raster_op(rop, s, 0);
+        let full = raster_op(rop, s, 0xFFFF_FFFF);
+        Reduced {
+            keep: full ^ flip,
+            flip,
+        }
     }
-}
 
-// With the masks of an operation, its result.
-// Rules out: the flip before the keep; the destination left as it was.
-pub fn reduce_pixel(keep: u32, flip: u32, d: u32) -> u32
-    ensures { PixelReduced keep flip d result }
-{
-    d & keep ^ flip
+    // With the masks of an operation, its result.
+    // Rules out: the flip before the keep; the destination left as it was.
+    #[tactic(auto, unfolding(crate::specs::Masks::reduce_pixel))]
+    pub fn apply(self, d: u32) -> u32
+        ensures { PixelReduced self.keep self.flip d result }
+    {
+        d & self.keep ^ self.flip
+    }
 }
 
 // An operation at any source and destination: at each bit it is product·s·d + source·s + dest·d + constant, sums being exclusive-or.
 // Each mask is 0 or all ones.
-#[derive(Clone, Copy)]
+#[derive(Clone, Copy, PartialEq, Eq)]
 pub struct Masks {
     pub product: u32,
     pub source: u32,
@@ -103,41 +109,45 @@ pub struct Masks {
     pub constant: u32,
 }
 
-// The masks give the operation's result for every source and destination.
-// Rules out: masks of the operation with source and destination exchanged; masks of operation rop % 8.
-pub fn masks_of(rop: u32) -> Masks
-    ensures { Merges rop result }
-{
-    let constant = raster_op(rop, 0, 0);
-    let source = raster_op(rop, 0xFFFF_FFFF, 0) ^ constant;
-    let dest = raster_op(rop, 0, 0xFFFF_FFFF) ^ constant;
-    let both = raster_op(rop, 0xFFFF_FFFF, 0xFFFF_FFFF);
-    Masks {
-        product: both ^ source ^ dest ^ constant,
-        source,
-        dest,
-        constant,
+impl Masks {
+    // The masks give the operation's result for every source and destination.
+    // Rules out: masks of the operation with source and destination exchanged; masks of operation rop % 8.
+    #[tactic(auto, using(crate::proofs::ByMasks::merged), unfolding(crate::proofs::ByMasks::masks_of))]
+    pub fn of(rop: u32) -> Masks
+        ensures { Merges rop result }
+    {
+        let constant = raster_op(rop, 0, 0);
+        let source = raster_op(rop, 0xFFFF_FFFF, 0) ^ constant;
+        let dest = raster_op(rop, 0, 0xFFFF_FFFF) ^ constant;
+        let both = raster_op(rop, 0xFFFF_FFFF, 0xFFFF_FFFF);
+        Masks {
+            product: both ^ source ^ dest ^ constant,
+            source,
+            dest,
+            constant,
+        }
     }
-}
 
-// With the masks of an operation, its result: four operations for a pixel, with the product or without it.
-// The test is the same for a whole copy, so it leaves the loops.
-// Rules out: the masks of source and destination exchanged; the product left out.
-pub fn merge_pixel(m: Masks, s: u32, d: u32) -> u32
-    ensures { PixelMerged m s d result }
-{
-    if m.product == 0 {
-        return d & m.dest ^ (s & m.source ^ m.constant);
+    // With the masks of an operation, its result: four operations for a pixel, with the product or without it.
+    // The test is the same for a whole copy, so it leaves the loops.
+    // Rules out: the masks of source and destination exchanged; the product left out.
+    #[tactic(auto, unfolding(crate::specs::Masks::merge_pixel))]
+    pub fn apply(self, s: u32, d: u32) -> u32
+        ensures { PixelMerged self s d result }
+    {
+        if self.product == 0 {
+            d & self.dest ^ (s & self.source ^ self.constant)
+        } else {
+            (s ^ self.dest) & (d ^ self.source) ^ (self.dest & self.source ^ self.constant)
+        }
     }
-    (s ^ m.dest) & (d ^ m.source) ^ (m.dest & m.source ^ m.constant)
 }
 
 // One colour of a cursor pixel with top byte a, over one colour of the pixel below.
-fn blend_colour(a: u32, cursor: u32, below: u32) -> u32
-    requires { (a ≤ 255) × (cursor ≤ 255) × (below ≤ 255) }
+fn blend_colour(a: u8, cursor: u8, below: u8) -> u32
     ensures { result ≡ blend_colour a cursor below }
 {
-    (a * cursor + (255 - a) * below + 127) / 255
+    (u32::from(a) * u32::from(cursor) + u32::from(255 - a) * u32::from(below) + 127) / 255
 }
 
 // A cursor pixel over a screen pixel.
@@ -146,9 +156,10 @@ fn blend_colour(a: u32, cursor: u32, below: u32) -> u32
 pub fn blend(cursor: u32, below: u32) -> u32
     ensures { result ≡ blend_pixel cursor below }
 {
-    let a = cursor / 16777216 % 256;
-    let red = blend_colour(a, cursor / 65536 % 256, below / 65536 % 256);
-    let green = blend_colour(a, cursor / 256 % 256, below / 256 % 256);
-    let blue = blend_colour(a, cursor % 256, below % 256);
+    let [a, red, green, blue] = cursor.to_be_bytes();
+    let [_, below_red, below_green, below_blue] = below.to_be_bytes();
+    let red = blend_colour(a, red, below_red);
+    let green = blend_colour(a, green, below_green);
+    let blue = blend_colour(a, blue, below_blue);
     red * 65536 + green * 256 + blue
 }

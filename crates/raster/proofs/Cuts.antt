@@ -10,7 +10,7 @@ use lib.Dec.{ltb, leb}
 use lib.ListN.{length}
 use borrow.Author.Tests.{ltb-true, leb-true, lt-ltb, le-leb}
 use Rattle.geometry.specs.declared.Rect.{Rect}
-use Rattle.geometry.specs.declared.Cut.TheVariants.{Rectangle, Nothing}
+use Rattle.std.specs.Prelude.{Some, None}
 use Rattle.geometry.specs.Rectangle.{span_below, cut_to, cut_copy}
 use Rattle.geometry.specs.Pixels.{in_rect, in_area}
 use Rattle.geometry.specs.Parts.{Inside}
@@ -19,7 +19,7 @@ use Rattle.geometry.proofs.Painted.{painted_same, painted_region, none_painted, 
 use Rattle.geometry.proofs.Rows.{inside}
 use Rattle.geometry.proofs.Cutting.{cut_rectangle, cut_nothing, in_rect_lem, rect_in, in_none, area_cut}
 use Rattle.raster.specs.Painters.{rows_fit, filled_in, filled, updated, moves, copied_in, copied}
-use Rattle.raster.specs.CutPainters.{filled_cut, updated_cut, copied_cut}
+use Rattle.raster.specs.CutPainters.{filled_by, filled_cut, updated_cut, copied_by, copied_cut}
 
 pub record Fit (width rows n : ℕ) : Type 0 where
   pub wide : 0 < width
@@ -35,7 +35,7 @@ rows_fit_lem width rows n e =
 
 -- ---- where
 
-module _ (width rows : ℕ) (r a : Rect) (is : cut_to r width rows ≡ Rectangle a) where
+module _ (width rows : ℕ) (r a : Rect) (is : cut_to r width rows ≡ Some a) where
   pub cut_inside : (n : ℕ) → width * rows ≤ n → Inside width a.x a.y a.w a.h n
   unfolding cut_to
   cut_inside n long =
@@ -48,7 +48,7 @@ module _ (width rows : ℕ) (r a : Rect) (is : cut_to r width rows ≡ Rectangle
       let s = cut_rectangle r.x r.y (span_below width r.x r.w) (span_below rows r.y r.h) a is in
       rw s.0 (sym (area_cut width rows r k pos))
 
-pub area_nothing : (width rows : ℕ) (r : Rect) → cut_to r width rows ≡ Nothing → 0 < width → (k : ℕ) → in_area width rows r k ≡ false
+pub area_nothing : (width rows : ℕ) (r : Rect) → cut_to r width rows ≡ None → 0 < width → (k : ℕ) → in_area width rows r k ≡ false
 unfolding cut_to
 area_nothing width rows r is pos k =
     area_cut width rows r k pos ∙ in_none width r.x r.y _ _ k (cut_nothing r.x r.y _ _ is)
@@ -76,7 +76,7 @@ moves_cut width rows sx sy r k pos =
     and_yes _ _ (rect_in width r.x r.y w h k (record { left = i.left; right = omega arith; top = i.top; bottom = omega arith }))
     (and_yes _ _ (lt-ltb (sx + (k % width - r.x)) width (omega arith)) (lt-ltb (sy + (k / width - r.y)) rows (omega arith)))))
 
-module _ (width rows sx sy : ℕ) (r a : Rect) (is : cut_copy sx sy r width rows ≡ Rectangle a) where
+module _ (width rows sx sy : ℕ) (r a : Rect) (is : cut_copy sx sy r width rows ≡ Some a) where
   pub copy_inside : (n : ℕ) → width * rows ≤ n → Inside width a.x a.y a.w a.h n × Inside width sx sy a.w a.h n
   unfolding cut_copy
   copy_inside n long =
@@ -97,7 +97,7 @@ module _ (width rows sx sy : ℕ) (r a : Rect) (is : cut_copy sx sy r width rows
       let s = cut_rectangle r.x r.y (span_below width sx (span_below width r.x r.w)) (span_below rows sy (span_below rows r.y r.h)) a is in
       rw s.0 (refl, refl)
 
-pub moves_nothing : (width rows sx sy : ℕ) (r : Rect) → cut_copy sx sy r width rows ≡ Nothing → 0 < width → (k : ℕ) → moves width rows sx sy r k ≡ false
+pub moves_nothing : (width rows sx sy : ℕ) (r : Rect) → cut_copy sx sy r width rows ≡ None → 0 < width → (k : ℕ) → moves width rows sx sy r k ≡ false
 unfolding cut_copy
 moves_nothing width rows sx sy r is pos k =
     moves_cut width rows sx sy r k pos ∙ in_none width r.x r.y _ _ k (cut_nothing r.x r.y _ _ is)
@@ -109,14 +109,14 @@ module _ (width rows : ℕ) (r : Rect) (colour rop : ℕ) (old : List ℕ) where
   unfolding filled filled_in
   fill_refused misfit = sym (refused_if _ _ _ old misfit)
 
-  pub fill_nothing : rows_fit width rows (length old) ≡ true → cut_to r width rows ≡ Nothing → old ≡ filled width rows r colour rop old
+  pub fill_nothing : rows_fit width rows (length old) ≡ true → cut_to r width rows ≡ None → old ≡ filled width rows r colour rop old
   unfolding filled filled_in
   fill_nothing fit is =
       sym (painted_if_lem _ _ _ old fit ∙ none_painted _ _ old (λ k h. area_nothing width rows r is (rows_fit_lem width rows _ fit).wide k))
 
-  pub fill_cut : (a : Rect) → rows_fit width rows (length old) ≡ true → cut_to r width rows ≡ Rectangle a
+  pub fill_cut : (a : Rect) → rows_fit width rows (length old) ≡ true → cut_to r width rows ≡ Some a
       → filled_cut width a colour rop old ≡ filled width rows r colour rop old
-  unfolding filled filled_in filled_cut
+  unfolding filled filled_in filled_by
   fill_cut a fit is =
       painted_region _ _ _ old (λ k h. area_rectangle width rows r a is (rows_fit_lem width rows _ fit).wide k) ∙ sym (painted_if_lem _ _ _ old fit)
 
@@ -136,13 +136,13 @@ module _ (width rows : ℕ) (r : Rect) (framebuffer old : List ℕ) where
       let u : leb (width * rows) (length framebuffer) ≡ false = rw a.0 at unlent in
       sym (refused_if _ _ _ old (rw (fit, u)))
 
-  pub update_nothing : rows_fit width rows (length old) ≡ true → rows_fit width rows (length framebuffer) ≡ true → cut_to r width rows ≡ Nothing
+  pub update_nothing : rows_fit width rows (length old) ≡ true → rows_fit width rows (length framebuffer) ≡ true → cut_to r width rows ≡ None
       → old ≡ updated width rows r framebuffer old
   unfolding updated
   update_nothing fit lent-too is =
       sym (painted_if_lem _ _ _ old (both_fit fit lent-too) ∙ none_painted _ _ old (λ k h. area_nothing width rows r is (rows_fit_lem width rows _ fit).wide k))
 
-  pub update_cut : (a : Rect) → rows_fit width rows (length old) ≡ true → rows_fit width rows (length framebuffer) ≡ true → cut_to r width rows ≡ Rectangle a
+  pub update_cut : (a : Rect) → rows_fit width rows (length old) ≡ true → rows_fit width rows (length framebuffer) ≡ true → cut_to r width rows ≡ Some a
       → updated_cut width a framebuffer old ≡ updated width rows r framebuffer old
   unfolding updated updated_cut
   update_cut a fit lent-too is =
@@ -153,14 +153,14 @@ module _ (width rows sx sy : ℕ) (r : Rect) (rop : ℕ) (old : List ℕ) where
   unfolding copied copied_in
   copy_refused misfit = sym (refused_if _ _ _ old misfit)
 
-  pub copy_nothing : rows_fit width rows (length old) ≡ true → cut_copy sx sy r width rows ≡ Nothing → old ≡ copied width rows sx sy r rop old
+  pub copy_nothing : rows_fit width rows (length old) ≡ true → cut_copy sx sy r width rows ≡ None → old ≡ copied width rows sx sy r rop old
   unfolding copied copied_in
   copy_nothing fit is =
       sym (painted_if_lem _ _ _ old fit ∙ none_painted _ _ old (λ k h. moves_nothing width rows sx sy r is (rows_fit_lem width rows _ fit).wide k))
 
-  pub copy_cut : (a : Rect) → rows_fit width rows (length old) ≡ true → cut_copy sx sy r width rows ≡ Rectangle a
+  pub copy_cut : (a : Rect) → rows_fit width rows (length old) ≡ true → cut_copy sx sy r width rows ≡ Some a
       → copied_cut width sx sy a rop old ≡ copied width rows sx sy r rop old
-  unfolding copied copied_in copied_cut
+  unfolding copied copied_in copied_by
   copy_cut a fit is =
       let corner = copy_corner width rows sx sy r a is in
       painted_region _ _ _ old (λ k h. moves_rectangle width rows sx sy r a is (rows_fit_lem width rows _ fit).wide k)

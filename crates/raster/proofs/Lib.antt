@@ -1,4 +1,4 @@
 pub mod Cuts
 pub mod Laws
-mod Plain
+mod ByMasks
 pub mod Stored

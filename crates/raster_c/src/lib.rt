@@ -4,7 +4,7 @@
 ghost use Rattle.std.specs.Prelude.{◌≡◌};
 ghost use Rattle.raster.specs.Painters.{filled, updated, copied};
 
-use geometry::Rect;
+use geometry::{Grid, Point, Rect};
 
 // Rules out: a fill of the rectangle with x and y exchanged; one that ignores the raster operation.
 #[unsafe(no_mangle)]
@@ -21,7 +21,8 @@ pub extern "C" fn raster_fill(
 )
     ensures { screen.new ≡ filled width rows (record { x = x; y = y; w = w; h = h }) colour rop screen.old }
 {
-    raster::fill(screen, width, rows, Rect { x, y, w, h }, colour, rop);
+    let grid = Grid { width, rows };
+    raster::fill(screen, grid, Rect { x, y, w, h }, colour, rop);
 }
 
 // Rules out: an update of the whole screen whatever the rectangle; one that paints where the framebuffer is too short for the rows.
@@ -38,7 +39,8 @@ pub extern "C" fn raster_update(
 )
     ensures { screen.new ≡ updated width rows (record { x = x; y = y; w = w; h = h }) framebuffer.now screen.old }
 {
-    raster::update(framebuffer, screen, width, rows, Rect { x, y, w, h });
+    let grid = Grid { width, rows };
+    raster::update(framebuffer, screen, grid, Rect { x, y, w, h });
 }
 
 // Rules out: a copy from (x, y) to (sx, sy); one that is always plain, whatever the raster operation.
@@ -57,5 +59,7 @@ pub extern "C" fn raster_copy(
 )
     ensures { screen.new ≡ copied width rows sx sy (record { x = x; y = y; w = w; h = h }) rop screen.old }
 {
-    raster::copy(screen, width, rows, sx, sy, Rect { x, y, w, h }, rop);
+    let grid = Grid { width, rows };
+    let from = Point { x: sx, y: sy };
+    raster::copy(screen, grid, from, Rect { x, y, w, h }, rop);
 }

@@ -1,11 +1,7 @@
 -- Demand 2's copy rule on a device: "In a copy, offset (i, j) moves exactly if both its source and its destination pixel lie in the mode", where, by document
 -- 02, P5, "Demand 2's copy rule reads 'in the mode or offscreen' for both pixels".
 -- Assumes nothing.
-use mathlib.Core.Path.{◌≡◌, ◌∙◌}
-use mathlib.Core.Bool.{true, ◌&&◌}
-use mathlib.Core.List.{List}
-use Prim.Native.Nat.{ℕ, ◌<◌}
-use lib.ListN.{length, get_or}
+use Rattle.std.proofs.Common.{◌≡◌, ◌∙◌, true, ◌&&◌, List, ℕ, ◌<◌, length, get_or}
 use borrow.Table.Steps.{cases}
 use Rattle.geometry.specs.declared.Rect.{Rect}
 use Rattle.geometry.specs.Pixels.{place_of, column_of, row_of, in_rect}
@@ -13,7 +9,7 @@ use Rattle.geometry.proofs.Tests.{both}
 use Rattle.geometry.proofs.Cutting.{in_rect_lem, rect_in}
 use Rattle.pixel.specs.RasterOperation.{raster_op}
 use Rattle.ring.specs.declared.Ring.{Ring}
-use Rattle.command.specs.declared.Source.{Source}
+use Rattle.geometry.specs.declared.Point.{Point}
 use Rattle.command.specs.declared.Action.TheVariants.{Copy}
 use Rattle.effect.specs.Effects.{rows_in, screen_after}
 use Rattle.effect.proofs.Reach as Reach
@@ -25,7 +21,7 @@ use Rattle.device_run.specs.Run.{Lent, scene_for}
 use Rattle.refusals.specs.Refusing.{source_x, source_y, CopyMoves}
 
 -- A copy from (sx, sy) into the rectangle, on a lent screen of P words: what is at place k then.
-module _ (d : Device) (l : Lent) (g : Ring) (from : Source) (r : Rect) (rop : ℕ) (screen : List ℕ) (k : ℕ) where
+module _ (d : Device) (l : Lent) (g : Ring) (from : Point) (r : Rect) (rop : ℕ) (screen : List ℕ) (k : ℕ) where
   module _ (good : well_formed d ≡ true) (long : length screen ≡ pixels_of d) (there : k < pixels_of d) where
     rows_lie : rows_in (scene_for d l g) screen ≡ true
     rows_lie = rw long (rows_fit_lem d (well_formed_lem d good))

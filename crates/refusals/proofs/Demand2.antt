@@ -5,17 +5,10 @@
 -- are checked before it ruled out. `-0` is what is taken, `-nothing` that a refusal changes nothing, `-ill-formed` what a device value is answered that no
 -- call can have made (`device/Device.well_formed`). Index, value, budget, word, command and lent memories are any.
 -- Assumes nothing.
-use mathlib.Core.Path.{◌≡◌, refl, sym, ap, ◌∙◌}
-use mathlib.Core.Bool.{true, false, false≢true, true≢false}
-use mathlib.Core.List.{List, [], ◌∷◌}
-use mathlib.Core.Option.{none}
+use Rattle.std.proofs.Common.{None, ◌≡◌, refl, sym, ap, ◌∙◌, true, false, true≢false, List, [], ◌∷◌, ◌≢◌, ◌↔◌, ◌⊎◌, inl, inr, ⊎_elim, ℕ, ◌*◌, ◌≤◌, ◌<◌, arith, eqb, length, get_or, eqb-true, leb-true, le-leb}
+use mathlib.Core.Bool.{false≢true}
 use mathlib.Core.Logic.Iff
-use mathlib.Core.Logic.{◌≢◌, ◌↔◌, ◌⊎◌, inl, inr, ⊎_elim}
-use Prim.Native.Nat.{ℕ, ◌*◌, ◌≤◌, ◌<◌}
-use native.Mathlib.Omega.{arith}
-use lib.Dec.{eqb}
-use lib.ListN.{length, get_or}
-use borrow.Author.Tests.{eqb-true, eqb-false, leb-true, le-leb, lt-leb}
+use borrow.Author.Tests.{eqb-false, lt-leb}
 use borrow.Table.Steps.{cases}
 use Rattle.geometry.proofs.Tests.{by_cond, not_both}
 use Rattle.execution.specs.declared.Cause.{Cause}
@@ -91,7 +84,7 @@ module _ (memory pixels : ℕ) where
       (λ f. rw f (λ e. absurd (omega arith), λ s. not_both (sizes_good memory pixels) ((sizes_good_lem memory pixels).1 s) f))
 
   -- "making yields no device"
-  pub make_nothing : is_refusal (made_of memory pixels).answer ≡ true → (made_of memory pixels).device ≡ none
+  pub make_nothing : is_refusal (made_of memory pixels).answer ≡ true → (made_of memory pixels).device ≡ None
   unfolding made_of is_refusal
   make_nothing = cases (sizes_good memory pixels) (λ t. rw t (λ e. absurd (false≢true e))) (λ f. rw f (λ e. refl))
 

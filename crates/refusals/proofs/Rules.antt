@@ -1,14 +1,7 @@
 -- The rule of each number that a register write, a run or a command's write answers, as one family: an answer's rule holds.
 -- Assumes nothing.
-use mathlib.Core.Path.{◌≡◌, refl, sym, ap, subst, ◌∙◌}
-use mathlib.Core.Bool.{true, false, cond}
-use mathlib.Core.List.{List, [], ◌∷◌}
-use mathlib.Core.Logic.{◌≢◌, ◌↔◌, ◌⊎◌, inl, inr, ⊎_elim}
-use Prim.Native.Nat.{ℕ, ◌-◌, ◌*◌, ◌/◌, ◌≤◌, ◌<◌, min}
-use native.Mathlib.Omega.{arith}
-use lib.Dec.{eqb}
-use lib.ListN.{length, get_or, take, drop}
-use borrow.Author.Tests.{eqb-true, eqb-false, ne_eqb, leb-true, leb-false, le-leb, lt-leb}
+use Rattle.std.proofs.Common.{Err, Ok, ◌≡◌, refl, sym, ap, subst, ◌∙◌, true, false, cond, List, [], ◌∷◌, ◌≢◌, ◌↔◌, ◌⊎◌, inl, inr, ⊎_elim, ℕ, ◌-◌, ◌*◌, ◌/◌, ◌≤◌, ◌<◌, min, arith, eqb, length, get_or, take, drop, eqb-true, ne_eqb, leb-true, leb-false, le-leb}
+use borrow.Author.Tests.{eqb-false, lt-leb}
 use borrow.Table.Steps.{cases}
 use Rattle.geometry.proofs.Tests.{by_cond, not_both}
 use Rattle.execution.specs.declared.Cause.TheVariants.{NotOffered, BadOperand, TooLong, BadNext}
@@ -39,7 +32,7 @@ use Rattle.device.specs.declared.Device.{Device}
 use Rattle.device.specs.Device.{pixels_of, width_of, height_of, enabled_of, configured_of, condition_of, mode_fits, well_formed}
 use Rattle.register_write.specs.Registers.{written}
 use Rattle.device_run.specs.Run.{Lent, RunOutcome, lent_good, condition_after, busy_after, machine_of, scene_for, line_of, turn_for, ran, refused_run, run_by, run_of}
-use Rattle.writer.specs.declared.WriterAnswer.TheVariants.{Taken, LentLength, RingRefused, NoRoom, NotACommand}
+use Rattle.writer.specs.declared.WriterError.TheVariants.{LentLength, RingRefused, NoRoom, NotACommand}
 use Rattle.writer.specs.Writing.{Command, Written, command_words, is_command, carried_in, append_all, write_of}
 use Rattle.writer.specs.Writing as Writer
 use Rattle.writer.specs.Reading.{NotTaken}
@@ -367,11 +360,11 @@ module _ {S : Type 0} (known_of : S → Known) (does : Action → List ℕ → S
 module _ (ring : List ℕ) (c : Command) where
   -- by its refusals, in document 02's order
   by_submits : (P : Written → Type 0)
-      → (Submit33 ring c → P (Writer.written RingRefused ring))
-      → (Submit41 ring c → P (Writer.written NotACommand ring))
-      → (Submit20 ring c → P (Writer.written LentLength ring))
-      → (Submit40 ring c → P (Writer.written NoRoom ring))
-      → (Submit0 ring c → P (Writer.written Taken (append_all ring (command_words c))))
+      → (Submit33 ring c → P (Writer.written (Err RingRefused) ring))
+      → (Submit41 ring c → P (Writer.written (Err NotACommand) ring))
+      → (Submit20 ring c → P (Writer.written (Err LentLength) ring))
+      → (Submit40 ring c → P (Writer.written (Err NoRoom) ring))
+      → (Submit0 ring c → P (Writer.written (Ok tt) (append_all ring (command_words c))))
       → P (write_of ring c)
   by_submits P on-33 on-41 on-20 on-40 taken =
       let is = taken_is (carried_in ring) c.head in

@@ -14,7 +14,7 @@ use Rattle.register.specs.declared.ReadOnly.{ReadOnly}
 use Rattle.register.specs.declared.Writable.{Writable}
 use Rattle.register.specs.declared.Writable.TheVariants.{Id, Enable, Width, Height, ConfigDone, Sync, GuestId, CursorId, CursorX, CursorY, CursorOn}
 use Rattle.register.specs.Numbers.{register_of}
-use Rattle.command.specs.declared.Source.{Source}
+use Rattle.geometry.specs.declared.Point.{Point}
 use Rattle.command.specs.Commands.{Known, entry, size_by, kind_in}
 use Rattle.command.specs.Findings.{data_of}
 use Rattle.writer.specs.Writing.{Command, command_words, pixels_asked, bytes_asked, carried_in, free_words}
@@ -283,15 +283,15 @@ module _ (ring : List ℕ) (c : Command) where
 -- ---- the copy rule: document 02, P5, "Demand 2's copy rule reads 'in the mode or offscreen' for both pixels"
 
 -- Of a copy into the rectangle r: the source pixel of the offset whose destination stands at place k.
-abbrev pub source_x : Device → Source → Rect → ℕ → ℕ
+abbrev pub source_x : Device → Point → Rect → ℕ → ℕ
 source_x d from r k = from.x + (column_of (width_of d) k - r.x)
 
-abbrev pub source_y : Device → Source → Rect → ℕ → ℕ
+abbrev pub source_y : Device → Point → Rect → ℕ → ℕ
 source_y d from r k = from.y + (row_of (width_of d) k - r.y)
 
 -- "In a copy, offset (i, j) moves exactly if both its source and its destination pixel lie in the mode", or offscreen: the destination is one of the
 -- rectangle's, and both are in the mode or offscreen.
-abbrev pub CopyMoves : Device → Source → Rect → ℕ → Type 0
+abbrev pub CopyMoves : Device → Point → Rect → ℕ → Type 0
 CopyMoves d from r k =
     Has r.x r.y r.w r.h (column_of (width_of d) k) (row_of (width_of d) k)
     × (joined d (column_of (width_of d) k) (row_of (width_of d) k) ≡ true)

@@ -10,8 +10,5 @@ ghost use Rattle.refusals.specs.Refusing.{is_refusal};
 pub fn is_refusal(answer: u32) -> bool
     ensures { result ≡ is_refusal answer }
 {
-    if answer < 20 {
-        return false;
-    }
-    answer <= 34
+    (20..=34).contains(&answer)
 }

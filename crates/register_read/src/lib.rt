@@ -1,27 +1,25 @@
 // What registers read.
 #![tactic(auto)]
 
-ghost use Rattle.std.specs.Prelude.{◌≡◌, true};
+ghost use Rattle.std.specs.Prelude.{◌≡◌, true, Err};
 ghost use Rattle.device.specs.Device.{well_formed, width_of, height_of};
 ghost use Rattle.register_read.specs.Answers.{reading};
-ghost use Rattle.register_read.specs.Registers.{bit, writable_value, read_only_value, read_of};
+ghost use Rattle.register_read.specs.Registers.{writable_value, read_only_value, read_of};
 
 use device::{Device, MAX_HEIGHT, MAX_WIDTH, Registers, is_well_formed};
 use register::{ReadOnly, Register, Writable};
 
-#[derive(Clone, Copy)]
-pub enum Value {
-    Is(u32),
-    NoRegister,
-}
+// There is no register with that index.
+#[derive(Clone, Copy, PartialEq, Eq)]
+pub struct NoRegister;
 
-fn bit_of(b: bool) -> u32
-    ensures { result ≡ bit b }
-{
-    if b {
-        return 1;
+impl From<NoRegister> for u32 {
+    ghost from_gives = { λ e number. number ≡ (reading (Err e)).answer };
+
+    // Rules out: 31, which is a read-only register's.
+    fn from(_e: NoRegister) -> u32 {
+        30
     }
-    0
 }
 
 #[tactic(auto, unfolding(crate::specs::Registers::writable_value))]
@@ -30,10 +28,10 @@ fn writable_value(g: Registers, w: Writable) -> u32
 {
     match w {
         Writable::Id => g.id,
-        Writable::Enable => bit_of(g.enable),
+        Writable::Enable => u32::from(g.enable),
         Writable::Width => g.width,
         Writable::Height => g.height,
-        Writable::ConfigDone => bit_of(g.config),
+        Writable::ConfigDone => u32::from(g.config),
         Writable::Sync => 0,
         Writable::GuestId => g.guest,
         Writable::CursorId => g.cursorid,
@@ -48,7 +46,6 @@ fn read_only_value(d: Device, r: ReadOnly) -> u32
     requires { well_formed d ≡ true }
     ensures { result ≡ read_only_value d.sizes (width_of d) (height_of d) d.busy r }
 {
-    let sizes = d.sizes;
     let g = d.registers;
     match r {
         ReadOnly::MaxWidth => MAX_WIDTH,
@@ -64,35 +61,26 @@ fn read_only_value(d: Device, r: ReadOnly) -> u32
         ReadOnly::FbStart => 0,
         ReadOnly::FbOffset => 0,
         ReadOnly::MemStart => 0,
-        ReadOnly::VramSize => 4 * sizes.pixels,
+        ReadOnly::VramSize => 4 * d.sizes.pixels,
         ReadOnly::FbSize => 4 * g.width * g.height,
         ReadOnly::Capabilities => 0x12D3,
-        ReadOnly::MemSize => sizes.memory,
-        ReadOnly::Busy => bit_of(d.busy),
+        ReadOnly::MemSize => d.sizes.memory,
+        ReadOnly::Busy => u32::from(d.busy),
     }
 }
 
 // What a register reads.
 // Rules out: BYTES_PER_LINE of the mode before WIDTH was written; a value for a palette register.
 #[tactic(auto, unfolding(crate::specs::Registers::read_of, crate::specs::Registers::read_by))]
-pub fn read(d: Device, index: u32) -> Value
+pub fn read(d: Device, index: u32) -> Result<u32, NoRegister>
     ensures { reading result ≡ read_of d index }
 {
-    let good = is_well_formed(d);
-    if !good {
-        return Value::NoRegister;
+    if !is_well_formed(d) {
+        return Err(NoRegister);
     }
-    let register = register::register_of(index);
-    match register {
-        Register::Writes(w) => {
-            let g = d.registers;
-            return Value::Is(writable_value(g, w));
-        }
-        Register::Reads(r) => {
-            return Value::Is(read_only_value(d, r));
-        }
-        Register::Absent => {
-            return Value::NoRegister;
-        }
+    match Register::from(index) {
+        Register::Writes(w) => Ok(writable_value(d.registers, w)),
+        Register::Reads(r) => Ok(read_only_value(d, r)),
+        Register::Absent => Err(NoRegister),
     }
 }

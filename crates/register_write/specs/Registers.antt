@@ -1,8 +1,6 @@
 -- What a register write does: document 01, "Registers".
-use Rattle.std.specs.Prelude.{ℕ, ◌/◌, Bool, true, false, cond, not, ◌&&◌, List, eqb, leb, length}
+use Rattle.std.specs.Prelude.{ℕ, ◌/◌, Bool, true, false, cond, not, ◌&&◌, List, eqb, leb, length, None, Option, Some}
 use Rattle.ring.specs.declared.Ring.{Ring}
-use Rattle.ring.specs.declared.Acceptance.{Acceptance}
-use Rattle.ring.specs.declared.Acceptance.TheVariants.{Accepted, Refused}
 use Rattle.ring.specs.Acceptance.{accepted}
 use Rattle.register.specs.declared.Register.{Register}
 use Rattle.register.specs.declared.Register.TheVariants.{Writes, Reads, Absent}
@@ -198,9 +196,9 @@ abbrev pub remembering : Device → Ring → Device
 remembering d g = with_condition (configured d true) (Running g)
 
 -- "else 33"
-unfoldable pub accepted_written : Device → Acceptance → WriteOutcome
-accepted_written d (Accepted g) = taken (remembering d g)
-accepted_written d Refused = refused 33 d
+unfoldable pub accepted_written : Device → Option Ring → WriteOutcome
+accepted_written d (Some g) = taken (remembering d g)
+accepted_written d None = refused 33 d
 
 -- "CONFIG_DONE 1: first 32, then 20, then 33."
 unfoldable pub ring_written : Device → List ℕ → WriteOutcome

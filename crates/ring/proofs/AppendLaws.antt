@@ -1,20 +1,20 @@
 -- Laws of an append: the waiting words become longer by its word, it is refused exactly where the ring is full, and it leaves everything else alone; and
 -- what it answers at each of its three ends.
 -- Assumes nothing.
+use Rattle.std.specs.Prelude.{Err, Ok}
 use mathlib.Core.Path.{◌≡◌, sym, ap₂, ◌∙◌}
 use mathlib.Core.Bool.{true, false, and-eq-true_iff}
 use mathlib.Core.List.{List, [], ◌∷◌, ◌++◌}
 use mathlib.Core.Logic.{◌≢◌, ◌↔◌}
-use Prim.Native.Nat.{ℕ, suc, ◌+◌, ◌*◌, ◌/◌, ◌%◌, ◌≤◌, ◌<◌}
+use Prim.Native.Nat.{ℕ, ◌*◌, ◌/◌, ◌%◌, ◌≤◌, ◌<◌}
 use native.Mathlib.Omega.{arith}
 use lib.ListN.{length, get_or, set, length-set}
 use lib.Seq.{get_or-set_same, get_or-set_other}
-use lib.Dec.{eqb}
-use borrow.Author.Tests.{eqb-true, eqb-false, eq-eqb, ne_eqb, lt-ltb, le-ltb, not-true, not-false}
+use Rattle.std.proofs.lemmas.Bool.Decides.{nat_tests}
+use borrow.Author.Tests.{eqb-true, eq-eqb, ne_eqb, not-false}
 use borrow.Table.Steps.{cases}
 use Rattle.ring.specs.Acceptance.{min_of, max_of, next_of, stop_of, usable, Usable}
 use Rattle.ring.specs.Waiting.{after, between, words, waiting, carried}
-use Rattle.ring.specs.declared.AppendAnswer.TheVariants.{Taken, Refused}
 use Rattle.ring.specs.Append.{moved_on, can_append, append_to, appended, append_of}
 use Rattle.ring.proofs.Laws.{usable_when, when_usable}
 use Rattle.ring.proofs.WaitingLaws.{words_outside, words_snoc, between_in, between_after, between_full, ahead_between, length-waiting}
@@ -25,10 +25,7 @@ append-refused ring x e = rw e
 
 pub length-append_to : (ring : List ℕ) (x : ℕ) → length (append_to ring x) ≡ length ring
 unfolding append_to
-length-append_to ring x =
-    cases (can_append ring)
-    (λ e. rw e (length-set (set ring (next_of ring / 4) x) 2 _ ∙ length-set ring (next_of ring / 4) x))
-    (λ e. rw e)
+length-append_to ring x = grind (arith, length-set)
 
 -- what an append that is not refused has shown
 pub append-usable : (ring : List ℕ) → can_append ring ≡ true → Usable ring
@@ -37,7 +34,7 @@ append-usable ring e = usable_when ring ((and-eq-true_iff (usable ring) _).0 e).
 
 pub append_apart : (ring : List ℕ) → can_append ring ≡ true → moved_on (min_of ring) (max_of ring) (next_of ring) ≢ stop_of ring
 unfolding can_append
-append_apart ring e = eqb-false _ _ (not-true _ ((and-eq-true_iff (usable ring) _).0 e).1)
+append_apart ring e = grind (arith, nat_tests)
 
 -- NEXT_CMD after an append
 pub next_append : (ring : List ℕ) (x : ℕ) → can_append ring ≡ true → next_of (append_to ring x) ≡ moved_on (min_of ring) (max_of ring) (next_of ring)
@@ -49,15 +46,12 @@ next_append ring x e =
 -- a word that is neither ring word 2 nor the one at NEXT_CMD stays
 pub append_elsewhere : (ring : List ℕ) (x i : ℕ) → i ≢ 2 → i ≢ next_of ring / 4 → get_or (append_to ring x) i 0 ≡ get_or ring i 0
 unfolding append_to
-append_elsewhere ring x i a b =
-    cases (can_append ring)
-    (λ e. rw e (get_or-set_other (set ring (next_of ring / 4) x) 2 i _ 0 a ∙ get_or-set_other ring (next_of ring / 4) i x 0 b))
-    (λ e. rw e)
+append_elsewhere ring x i a b = grind (arith, get_or-set_other)
 
 head_stays : (ring : List ℕ) (x i : ℕ) → i ≢ 2 → i < 4 → get_or (append_to ring x) i 0 ≡ get_or ring i 0
 head_stays ring x i a b =
     cases (can_append ring)
-    (λ e. let u = append-usable ring e in append_elsewhere ring x i a (λ f. let w : i ≡ next_of ring / 4 = f in omega arith))
+    (λ e. let u = append-usable ring e in append_elsewhere ring x i a (omega arith))
     (λ e. rw (append-refused ring x e))
 
 -- NEXT_CMD moved on is an offset of the ring
@@ -66,10 +60,7 @@ moved_in : (ring : List ℕ) → Usable ring
     × (min_of ring ≤ moved_on (min_of ring) (max_of ring) (next_of ring))
     × (moved_on (min_of ring) (max_of ring) (next_of ring) < max_of ring)
 unfolding moved_on
-moved_in ring u =
-    cases (eqb (next_of ring + 4) (max_of ring))
-    (λ e. rw e (u.min_word, omega arith, omega arith))
-    (λ e. let w : next_of ring + 4 ≢ max_of ring = eqb-false _ _ e in rw e (omega arith, omega arith, omega arith))
+moved_in ring u = grind (arith, nat_tests)
 
 -- an append leaves MIN, MAX and STOP, and leaves a ring usable
 pub append_keeps : (ring : List ℕ) (x : ℕ)
@@ -90,21 +81,7 @@ append_keeps ring x =
           let u = append-usable ring e in
           let m = moved_in ring u in
           let n = next_append ring x e in
-          when_usable (append_to ring x)
-          (record {
-            there = omega arith;
-            min_word = omega arith;
-            max_word = omega arith;
-            next_word = omega arith;
-            stop_word = omega arith;
-            low = omega arith;
-            fits = omega arith;
-            size = omega arith;
-            next_low = omega arith;
-            next_high = omega arith;
-            stop_low = omega arith;
-            stop_high = omega arith;
-          })
+          when_usable (append_to ring x) (grind arith)
           ∙ sym (when_usable ring u))
           (λ e. rw (append-refused ring x e)),
     )
@@ -112,10 +89,7 @@ append_keeps ring x =
 -- where NEXT_CMD moves on to, in words
 moved_word : (lo hi p : ℕ) → p % 4 ≡ 0 → p < 4 * hi → moved_on (4 * lo) (4 * hi) p ≡ 4 * after lo hi (p / 4)
 unfolding moved_on after
-moved_word lo hi p e h =
-    cases (eqb (p + 4) (4 * hi))
-    (λ t. let u : p + 4 ≡ 4 * hi = eqb-true _ _ t in rw (t, le-ltb (suc (p / 4)) hi (omega arith)) (omega arith))
-    (λ t. let u : p + 4 ≢ 4 * hi = eqb-false _ _ t in rw (t, lt-ltb (suc (p / 4)) hi (omega arith)) (omega arith))
+moved_word lo hi p e h = grind (arith, nat_tests)
 
 -- a word stored at q, where the waiting words end, and another at ring word 2
 snoc : (ring : List ℕ) (lo hi stop q x y : ℕ) → 4 ≤ lo → lo ≤ stop → stop < hi → lo ≤ q → q < hi → hi ≤ length ring → (after lo hi q ≡ stop → ⊥)
@@ -160,15 +134,15 @@ module _ (ring : List ℕ) (lo hi stop : ℕ) (low : lo ≡ min_of ring / 4) (hi
       )
 
 -- what an append answers and leaves, at each of its three ends
-pub append_of_unusable : (ring : List ℕ) (x : ℕ) → usable ring ≡ false → appended Refused ring ≡ append_of ring x
+pub append_of_unusable : (ring : List ℕ) (x : ℕ) → usable ring ≡ false → appended (Err (record {})) ring ≡ append_of ring x
 unfolding append_of append_to can_append
 append_of_unusable ring x e = rw e
 
 module _ (ring : List ℕ) (x moved : ℕ) (good : usable ring ≡ true) (on : moved ≡ moved_on (min_of ring) (max_of ring) (next_of ring)) where
-  pub append_of_full : moved ≡ stop_of ring → appended Refused ring ≡ append_of ring x
+  pub append_of_full : moved ≡ stop_of ring → appended (Err (record {})) ring ≡ append_of ring x
   unfolding append_of append_to can_append
   append_of_full e = rw (good, sym on, eq-eqb moved (stop_of ring) e)
 
-  pub append_of_taken : moved ≢ stop_of ring → appended Taken (set (set ring (next_of ring / 4) x) 2 moved) ≡ append_of ring x
+  pub append_of_taken : moved ≢ stop_of ring → appended (Ok tt) (set (set ring (next_of ring / 4) x) 2 moved) ≡ append_of ring x
   unfolding append_of append_to can_append
   append_of_taken e = rw (good, sym on, ne_eqb moved (stop_of ring) e)

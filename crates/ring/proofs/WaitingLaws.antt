@@ -2,14 +2,13 @@
 -- Assumes nothing.
 use mathlib.Core.Path.{◌≡◌, refl, sym, ap, ap₂, ◌∙◌}
 use mathlib.Core.List.{List, [], ◌∷◌, ◌++◌}
-use mathlib.Core.Logic.{◌≢◌, ◌↔◌}
+use mathlib.Core.Logic.{◌↔◌}
 use Prim.Native.Nat.{ℕ, zero, suc, ◌+◌, ◌-◌, ◌≤◌, ◌<◌}
 use native.Mathlib.Omega.{arith}
 use lib.ListN.{length, get_or, set, take, drop}
 use lib.Seq.{get_or-set_other, get_or-set_same}
-use lib.Dec.{ltb, leb}
-use borrow.Author.Tests.{lt-ltb, le-ltb, le-leb, lt-leb, ltb-true, ltb-false, leb-true, leb-false}
-use borrow.Table.Steps.{cases}
+use Rattle.std.proofs.lemmas.Bool.Decides.{nat_tests}
+use borrow.Author.Tests.{lt-ltb}
 use Rattle.ring.specs.Waiting.{after, ahead, between, words, waiting, carried}
 
 -- p is a place of the ring, and the ring holds n words
@@ -21,33 +20,24 @@ pub record InRing (lo hi p n : ℕ) : Type 0 where
 -- the places of the ring
 pub after_in : (lo hi p : ℕ) → lo ≤ p → p < hi → (lo ≤ after lo hi p) × (after lo hi p < hi)
 unfolding after
-after_in lo hi p a b = cases (ltb (suc p) hi) (λ e. rw e (let u : suc p < hi = ltb-true _ _ e in omega arith)) (λ e. rw e (omega arith))
+after_in lo hi p a b = grind (arith, nat_tests)
 
 pub ahead_in : (lo hi p k : ℕ) → InRing lo hi p k → (lo ≤ ahead lo hi p k) × (ahead lo hi p k < hi)
 unfolding ahead
-ahead_in lo hi p k h =
-    cases (ltb (p + k) hi) (λ e. rw e (let u : p + k < hi = ltb-true _ _ e in omega arith)) (λ e. rw e (let u : hi ≤ p + k = ltb-false _ _ e in omega arith))
+ahead_in lo hi p k h = grind (arith, nat_tests)
 
 pub ahead_zero : (lo hi p : ℕ) → p < hi → ahead lo hi p 0 ≡ p
 unfolding ahead
-ahead_zero lo hi p b = rw (lt-ltb (p + 0) hi (omega arith)) (omega arith)
+ahead_zero lo hi p b = grind (arith, nat_tests)
 
 pub ahead_after : (lo hi p k : ℕ) → InRing lo hi p (suc k) → ahead lo hi (after lo hi p) k ≡ ahead lo hi p (suc k)
 unfolding after ahead
-ahead_after lo hi p k h =
-    cases (ltb (suc p) hi)
-    (λ e. rw e (let s : suc p + k ≡ p + suc k = omega arith in rw s))
-    (λ e. let u : hi ≤ suc p = ltb-false _ _ e in rw (e, lt-ltb (lo + k) hi (omega arith), le-ltb (p + suc k) hi (omega arith)) (omega arith))
+ahead_after lo hi p k h = grind (arith, nat_tests)
 
 -- k words on, and n more
 pub ahead_ahead : (lo hi p k n : ℕ) → lo ≤ p → p < hi → k + n + lo ≤ hi → ahead lo hi (ahead lo hi p k) n ≡ ahead lo hi p (k + n)
 unfolding ahead
-ahead_ahead lo hi p k n from below held =
-    cases (ltb (p + k) hi)
-    (λ t. let u : p + k < hi = ltb-true _ _ t in cases (ltb (p + k + n) hi)
-    (λ e. let f : p + k + n < hi = ltb-true _ _ e in rw (t, e, lt-ltb (p + (k + n)) hi (omega arith)) (omega arith))
-    (λ e. let f : hi ≤ p + k + n = ltb-false _ _ e in rw (t, e, le-ltb (p + (k + n)) hi (omega arith)) (omega arith)))
-    (λ t. let u : hi ≤ p + k = ltb-false _ _ t in rw (t, lt-ltb (p + k - (hi - lo) + n) hi (omega arith), le-ltb (p + (k + n)) hi (omega arith)) (omega arith))
+ahead_ahead lo hi p k n from below held = grind (arith, nat_tests)
 
 -- one place on, with one word fewer
 pub next_in : (lo hi p n : ℕ) → InRing lo hi p (suc n) → InRing lo hi (after lo hi p) n
@@ -99,10 +89,7 @@ words_outside ring lo hi p (suc n) q x a b c =
 -- fewer words on than the ring holds is another place
 ahead_other : (lo hi p k : ℕ) → InRing lo hi p (suc (suc k)) → ahead lo hi p (suc k) ≡ p → ⊥
 unfolding ahead
-ahead_other lo hi p k h =
-    cases (ltb (p + suc k) hi)
-    (λ e. rw e (λ f. let u : p + suc k ≡ p = f in omega arith))
-    (λ e. rw e (let v : hi ≤ p + suc k = ltb-false _ _ e in λ f. let u : p + suc k - (hi - lo) ≡ p = f in omega arith))
+ahead_other lo hi p k h = grind (arith, nat_tests)
 
 -- a store at the place after the n words is one word more
 pub words_snoc : (ring : List ℕ) (lo hi p n x : ℕ) → InRing lo hi p (suc n) → hi ≤ length ring → words (set ring (ahead lo hi p n) x) lo hi p (suc n) ≡ words ring lo hi p n ++ (x ∷ [])
@@ -116,66 +103,35 @@ words_snoc ring lo hi p (suc n) x h f =
 -- k words on from a place are k words from it
 pub between_on : (lo hi p k : ℕ) → lo ≤ p → p < hi → k + lo < hi → between lo hi p (ahead lo hi p k) ≡ k
 unfolding between ahead
-between_on lo hi p k a b h =
-    cases (ltb (p + k) hi)
-    (λ t. rw (t, le-leb p (p + k) (omega arith)) (omega arith))
-    (λ f. let v : hi ≤ p + k = ltb-false _ _ f in rw (f, lt-leb p (p + k - (hi - lo)) (omega arith)) (omega arith))
+between_on lo hi p k a b h = grind (arith, nat_tests)
 
 -- the number of words from one place up to another
 module _ (lo hi p q : ℕ) (a : lo ≤ p) (b : p < hi) (c : lo ≤ q) (d : q < hi) where
   -- never more than the ring carries
   pub between_carried : between lo hi p q ≤ carried lo hi
   unfolding between
-  between_carried = cases (leb p q) (λ e. rw e (let u : p ≤ q = leb-true _ _ e in omega arith)) (λ e. rw e (let u : q < p = leb-false _ _ e in omega arith))
+  between_carried = grind (arith, nat_tests)
 
   pub between_in : InRing lo hi p (suc (between lo hi p q))
   between_in = let u = between_carried in record { from = a; below = b; held = omega arith }
 
   pub between_ahead : (k : ℕ) → k ≤ between lo hi p q → between lo hi (ahead lo hi p k) q ≡ between lo hi p q - k
   unfolding between ahead
-  between_ahead k =
-      cases (leb p q)
-      (λ e. let u : p ≤ q = leb-true _ _ e in rw e (λ h. rw (lt-ltb (p + k) hi (omega arith), le-leb (p + k) q (omega arith)) (omega arith)))
-      (λ e. let u : q < p = leb-false _ _ e in rw e (λ h.
-      cases (ltb (p + k) hi)
-      (λ f. let v : p + k < hi = ltb-true _ _ f in rw (f, lt-leb (p + k) q (omega arith)) (omega arith))
-      (λ f. let v : hi ≤ p + k = ltb-false _ _ f in rw (f, le-leb (p + k - (hi - lo)) q (omega arith)) (omega arith))))
+  between_ahead k = grind (arith, nat_tests)
 
   pub ahead_between : ahead lo hi p (between lo hi p q) ≡ q
   unfolding between ahead
-  ahead_between =
-      cases (leb p q)
-      (λ e. let u : p ≤ q = leb-true _ _ e in rw (e, lt-ltb (p + (q - p)) hi (omega arith)) (omega arith))
-      (λ e. let u : q < p = leb-false _ _ e in rw (e, le-ltb (p + (q + (hi - lo) - p)) hi (omega arith)) (omega arith))
+  ahead_between = grind (arith, nat_tests)
 
   -- one place on is one word more, unless it comes round to p
   pub between_after : (after lo hi q ≡ p → ⊥) → between lo hi p (after lo hi q) ≡ suc (between lo hi p q)
   unfolding between after
-  between_after =
-      cases (ltb (suc q) hi)
-      (λ e. let u : suc q < hi = ltb-true _ _ e in rw e (λ h.
-      cases (leb p q)
-      (λ f. let v : p ≤ q = leb-true _ _ f in rw (f, le-leb p (suc q) (omega arith)) (omega arith))
-      (λ f. let v : q < p = leb-false _ _ f in rw (f, lt-leb p (suc q) (let w : suc q ≢ p = h in omega arith)) (omega arith))))
-      (λ e. let u : hi ≤ suc q = ltb-false _ _ e in rw (e, le-leb p q (omega arith)) (λ h.
-      rw (lt-leb p lo (let w : lo ≢ p = h in omega arith)) (omega arith)))
+  between_after = grind (arith, nat_tests)
 
   -- and it comes round to p exactly at as many words as the ring carries
   pub between_full : (after lo hi q ≡ p) ↔ (between lo hi p q ≡ carried lo hi)
   unfolding between after
-  between_full = (full, round)
-    where
-      full : after lo hi q ≡ p → between lo hi p q ≡ carried lo hi
-      full =
-          cases (ltb (suc q) hi)
-          (λ e. rw e (λ h. let w : suc q ≡ p = h in rw (lt-leb p q (omega arith)) (omega arith)))
-          (λ e. let u : hi ≤ suc q = ltb-false _ _ e in rw e (λ h. let w : lo ≡ p = h in rw (le-leb p q (omega arith)) (omega arith)))
-
-      round : between lo hi p q ≡ carried lo hi → after lo hi q ≡ p
-      round =
-          cases (leb p q)
-          (λ e. let u : p ≤ q = leb-true _ _ e in rw e (λ h. let w : q - p ≡ carried lo hi = h in rw (le-ltb (suc q) hi (omega arith)) (omega arith)))
-          (λ e. let u : q < p = leb-false _ _ e in rw e (λ h. let w : q + (hi - lo) - p ≡ carried lo hi = h in rw (lt-ltb (suc q) hi (omega arith)) (omega arith)))
+  between_full = (λ e. grind (arith, nat_tests), λ e. grind (arith, nat_tests))
 
 -- what waits from STOP up to NEXT_CMD
 pub length-waiting : (ring : List ℕ) (lo hi stop next : ℕ) → length (waiting ring lo hi stop next) ≡ between lo hi stop next

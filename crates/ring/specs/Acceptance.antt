@@ -1,7 +1,6 @@
 -- When ring words are accepted: document 01, "Registers", CONFIG_DONE 1.
-use Rattle.std.specs.Prelude.{ℕ, ◌+◌, ◌*◌, ◌/◌, ◌%◌, ◌≤◌, ◌<◌, ◌≡◌, Bool, cond, ◌&&◌, List, eqb, ltb, leb, length, get_or}
-use Rattle.ring.specs.declared.Acceptance.{Acceptance}
-use Rattle.ring.specs.declared.Acceptance.TheVariants.{Accepted, Refused}
+use Rattle.std.specs.Prelude.{ℕ, ◌+◌, ◌*◌, ◌/◌, ◌%◌, ◌≤◌, ◌<◌, ◌≡◌, Bool, cond, ◌&&◌, List, eqb, ltb, leb, length, get_or, Option, Some, None}
+use Rattle.ring.specs.declared.Ring.{Ring}
 
 -- "Ring words 0 to 3 are MIN, MAX, NEXT_CMD, STOP, in bytes"
 abbrev pub min_of : List ℕ → ℕ
@@ -61,6 +60,6 @@ pub record Usable (ring : List ℕ) : Type 0 where
   pub stop_high : stop_of ring < max_of ring
 
 -- "else 33. Accepted: MIN, MAX and STOP are remembered": here in words, a quarter of the bytes.
-unfoldable pub accepted : List ℕ → Acceptance
+unfoldable pub accepted : List ℕ → Option Ring
 accepted ring =
-    cond (usable ring) (Accepted (record { min = min_of ring / 4; max = max_of ring / 4; stop = stop_of ring / 4 })) Refused
+    cond (usable ring) (Some (record { min = min_of ring / 4; max = max_of ring / 4; stop = stop_of ring / 4 })) None

@@ -1,7 +1,6 @@
 -- What an append does to the ring memory: document 01, "Straight execution". Offsets are in bytes, as the ring words have them.
-use Rattle.std.specs.Prelude.{Bool, cond, not, ◌&&◌, List, ℕ, ◌+◌, ◌/◌, eqb, set}
-use Rattle.ring.specs.declared.AppendAnswer.{AppendAnswer}
-use Rattle.ring.specs.declared.AppendAnswer.TheVariants.{Taken, Refused}
+use Rattle.std.specs.Prelude.{Bool, cond, not, ◌&&◌, List, ℕ, ◌+◌, ◌/◌, eqb, set, Err, Ok, Result}
+use Rattle.ring.specs.declared.AppendRefused.{AppendRefused}
 use Rattle.ring.specs.Acceptance.{min_of, max_of, next_of, stop_of, usable}
 
 -- "moves NEXT_CMD on by 4, MAX becoming MIN"
@@ -19,16 +18,16 @@ append_to ring x =
     cond (can_append ring) (set (set ring (next_of ring / 4) x) 2 (moved_on (min_of ring) (max_of ring) (next_of ring))) ring
 
 -- An append's number is 0 where its word was taken and 1 where it was refused: document 01's table has none.
-abbrev pub append_number : AppendAnswer → ℕ
-append_number Taken = 0
-append_number Refused = 1
+abbrev pub append_number : Result (Unit {0}) AppendRefused → ℕ
+append_number (Ok t) = 0
+append_number (Err e) = 1
 
 -- An append answers a number and leaves the ring memory.
 pub record Appended : Type 0 where
   pub answer : ℕ
   pub ring : List ℕ
 
-abbrev pub appended : AppendAnswer → List ℕ → Appended
+abbrev pub appended : Result (Unit {0}) AppendRefused → List ℕ → Appended
 appended a ring = record { answer = append_number a; ring = ring }
 
 -- What an append answers, 0 taken and 1 refused, and what it leaves.

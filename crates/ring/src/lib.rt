@@ -1,7 +1,7 @@
 // The command ring's words 0 to 3, MIN, MAX, NEXT_CMD and STOP: when they are accepted, what is then remembered, and the guest's append.
 #![tactic(auto)]
 
-ghost use Rattle.std.specs.Prelude.{◌≡◌, ◌+◌, ◌≤◌};
+ghost use Rattle.std.specs.Prelude.{◌≡◌, ◌+◌, ◌≤◌, Err};
 ghost use Rattle.ring.specs.Acceptance.{offset_usable, bounds_usable, usable, accepted};
 ghost use Rattle.ring.specs.Waiting.{placed, next_good};
 ghost use Rattle.ring.specs.Append.{moved_on, append_number, appended, append_of};
@@ -15,65 +15,43 @@ pub const LEAST_BYTES: u64 = 10240;
 pub const LEAST_WORDS: u64 = 2560;
 
 // The remembered ring, in words of the ring memory: from min to below max, the next command at stop.
-#[derive(Clone, Copy)]
+#[derive(Clone, Copy, PartialEq, Eq, Default)]
 pub struct Ring {
     pub min: u32,
     pub max: u32,
     pub stop: u32,
 }
 
-#[derive(Clone, Copy)]
-pub enum Acceptance {
-    Accepted(Ring),
-    Refused,
-}
+// Why an append is refused: the ring is full, or its words are not usable.
+#[derive(Clone, Copy, PartialEq, Eq)]
+pub struct AppendRefused;
 
-#[derive(Clone, Copy)]
-pub enum AppendAnswer {
-    Taken,
-    Refused,
-}
+impl From<AppendRefused> for u32 {
+    ghost from_gives = { λ e number. number ≡ append_number (Err e) };
 
-// Rules out: 0 for a refused append; 1 for a taken one.
-pub fn append_number(answer: AppendAnswer) -> u32
-    ensures { result ≡ append_number answer }
-{
-    match answer {
-        AppendAnswer::Taken => 0,
-        AppendAnswer::Refused => 1,
+    // Rules out: 0, which is a taken append's; 33, which is a register write's.
+    fn from(_e: AppendRefused) -> u32 {
+        1
     }
 }
 
+// MIN, MAX and offsets in bytes here and below, as the ring words have them: a `Ring` counts in words.
 #[tactic(auto, unfolding(crate::specs::Acceptance::offset_usable))]
 fn offset_usable(min: u32, max: u32, offset: u32) -> bool
     ensures { result ≡ offset_usable min max offset }
 {
-    if offset % 4 != 0 {
-        return false;
-    }
-    if offset < min {
-        return false;
-    }
-    offset < max
+    offset % 4 == 0 && (min..max).contains(&offset)
 }
 
 #[tactic(auto, unfolding(crate::specs::Acceptance::bounds_usable))]
 fn bounds_usable(words: usize, min: u32, max: u32) -> bool
     ensures { result ≡ bounds_usable words min max }
 {
-    if min % 4 != 0 {
-        return false;
-    }
-    if max % 4 != 0 {
-        return false;
-    }
-    if min < 16 {
-        return false;
-    }
-    if words < (max / 4) as usize {
-        return false;
-    }
-    min as u64 + LEAST_BYTES <= max as u64
+    min % 4 == 0
+        && max % 4 == 0
+        && 16 <= min
+        && (max / 4) as usize <= words
+        && min as u64 + LEAST_BYTES <= max as u64
 }
 
 // Whether ring words 0 to 3 describe a ring in this memory.
@@ -82,37 +60,28 @@ fn bounds_usable(words: usize, min: u32, max: u32) -> bool
 pub fn is_usable(ring: &[u32]) -> bool
     ensures { result ≡ usable ring.now }
 {
-    if ring.len() < 4 {
+    let &[min, max, next, stop, ..] = ring else {
         return false;
-    }
-    let min = ring[0];
-    let max = ring[1];
-    let bounds = bounds_usable(ring.len(), min, max);
-    if !bounds {
-        return false;
-    }
-    let next = offset_usable(min, max, ring[2]);
-    if !next {
-        return false;
-    }
-    offset_usable(min, max, ring[3])
+    };
+    bounds_usable(ring.len(), min, max)
+        && offset_usable(min, max, next)
+        && offset_usable(min, max, stop)
 }
 
-// What CONFIG_DONE 1 remembers of the ring words, or that they are refused.
+// What CONFIG_DONE 1 remembers of the ring words, or none where they are refused.
 // Rules out: NEXT_CMD remembered for STOP; a refused ring remembered in part.
 #[tactic(auto, using(crate::proofs::Laws::usable_when), unfolding(crate::specs::Acceptance::accepted))]
-pub fn accept(ring: &[u32]) -> Acceptance
+pub fn accept(ring: &[u32]) -> Option<Ring>
     ensures { result ≡ accepted ring.now }
 {
-    let good = is_usable(ring);
-    if !good {
-        return Acceptance::Refused;
+    match ring {
+        &[min, max, _, stop, ..] if is_usable(ring) => Some(Ring {
+            min: min / 4,
+            max: max / 4,
+            stop: stop / 4,
+        }),
+        _ => None,
     }
-    Acceptance::Accepted(Ring {
-        min: ring[0] / 4,
-        max: ring[1] / 4,
-        stop: ring[3] / 4,
-    })
 }
 
 // Whether a remembered ring lies in a memory of so many words as acceptance asks.
@@ -121,19 +90,11 @@ pub fn accept(ring: &[u32]) -> Acceptance
 pub fn is_placed(g: Ring, words: usize) -> bool
     ensures { result ≡ placed g words }
 {
-    if g.min < 4 {
-        return false;
-    }
-    if words < g.max as usize {
-        return false;
-    }
-    if (g.max as u64) < g.min as u64 + LEAST_WORDS {
-        return false;
-    }
-    if g.stop < g.min {
-        return false;
-    }
-    g.stop < g.max
+    4 <= g.min
+        && g.max as usize <= words
+        && g.min as u64 + LEAST_WORDS <= g.max as u64
+        && g.min <= g.stop
+        && g.stop < g.max
 }
 
 // Whether a run can go by NEXT_CMD: a multiple of 4 inside the remembered ring.
@@ -142,13 +103,7 @@ pub fn is_placed(g: Ring, words: usize) -> bool
 pub fn next_good(g: Ring, next: u32) -> bool
     ensures { result ≡ next_good g next }
 {
-    if next % 4 != 0 {
-        return false;
-    }
-    if next / 4 < g.min {
-        return false;
-    }
-    next / 4 < g.max
+    next % 4 == 0 && g.min <= next / 4 && next / 4 < g.max
 }
 
 #[tactic(auto, unfolding(crate::specs::Append::moved_on))]
@@ -157,29 +112,24 @@ fn moved_on(min: u32, max: u32, offset: u32) -> u32
     ensures { result ≡ moved_on min max offset }
 {
     let moved = offset + 4;
-    if moved == max {
-        return min;
-    }
-    moved
+    if moved == max { min } else { moved }
 }
 
 // The guest's append: its word at NEXT_CMD, and NEXT_CMD moved on; refused where the ring is full or its words are not usable.
 // Rules out: a full ring that takes one word more; NEXT_CMD moved on to MAX instead of MIN; a word stored by an append that is refused.
-#[tactic(auto, using(crate::proofs::Laws::usable_when, crate::proofs::AppendLaws::append_of_unusable, crate::proofs::AppendLaws::append_of_full, crate::proofs::AppendLaws::append_of_taken))]
-pub fn append(ring: &mut [u32], word: u32) -> AppendAnswer
+#[tactic(auto, using(crate::proofs::Laws::usable_when, crate::proofs::AppendLaws::append_of_unusable, crate::proofs::AppendLaws::append_of_full, crate::proofs::AppendLaws::append_of_taken, std::proofs::lemmas::Grind::elements))]
+pub fn append(ring: &mut [u32], word: u32) -> Result<(), AppendRefused>
     ensures { appended result ring.new ≡ append_of ring.old word }
 {
-    let good = is_usable(ring);
-    if !good {
-        return AppendAnswer::Refused;
+    if !is_usable(ring) {
+        return Err(AppendRefused);
     }
     let next = ring[2];
     let moved = moved_on(ring[0], ring[1], next);
     if moved == ring[3] {
-        return AppendAnswer::Refused;
+        return Err(AppendRefused);
     }
-    let at = (next / 4) as usize;
-    ring[at] = word;
+    ring[(next / 4) as usize] = word;
     ring[2] = moved;
-    AppendAnswer::Taken
+    Ok(())
 }

@@ -9,11 +9,11 @@ use native.Mathlib.Numerals.{add-one}
 use lib.ListN.{length, get_or, take, drop, set, length-drop, length-append, length-set, take-append-drop, get_or-append}
 use lib.Seq.{take_all, drop-append-le, drop_at, take_at, paste, paste-suc, take-paste, drop-paste, get_or-take, get_or-drop, get_or-set_same}
 use lib.Seq.{length-take-le, ext_get_or, drop-drop}
-use borrow.Author.Tests.{lt-ltb, le-ltb}
+use borrow.Author.Tests.{le-ltb}
 use Rattle.ring.specs.Waiting.{ahead, words}
-use Rattle.ring.proofs.WaitingLaws.{length-words, get_or_straight, take_words, drop-words}
+use Rattle.ring.proofs.WaitingLaws.{ahead_in, length-words, get_or_straight, take_words, drop-words}
 use Rattle.run.specs.declared.View.{View}
-use Rattle.run.specs.Turns.{InView, words_in, row_in}
+use Rattle.run.specs.Turns.{InView, words_in, front_of, passed_in, row_in}
 
 -- one word more
 pub copy_more : (d : List ℕ) (to : ℕ) (ring : List ℕ) (from j : ℕ) → to + j < length d → from + j < length ring
@@ -62,20 +62,22 @@ module _ (ring : List ℕ) (lo hi : ℕ) (there : hi ≤ length ring) where
         ∙ drop-drop (n - f) (to + f) d ∙ ap (λ k. drop k d) sum in
         ap₂ (λ (x : List ℕ) (y : List ℕ). x ++ y) (ap₂ (λ (x : List ℕ) (y : List ℕ). x ++ y) front tail ∙ append_assoc (take to d) (take f s) (drop f s) ∙ ap (λ (w : List ℕ). take to d ++ w) (take-append-drop f s ∙ sym all_words)) last
 
--- the pixels behind a cursor's head are the words from place p on
-pub pixels_from : (ring : List ℕ) (v : View) (count p : ℕ) → InView v (length ring) → 6 + count ≤ v.n → p ≡ ahead v.lo v.hi v.at 6
-    → words ring v.lo v.hi p count ≡ take count (drop 6 (words_in ring v))
-pixels_from ring v count p inside some is =
-    rw is
-    (sym (ap (take count) (drop-words ring v.lo v.hi v.at v.n 6 (record { from = inside.from; below = inside.below; held = omega arith }) (omega arith))
-    ∙ take_words ring v.lo v.hi (ahead v.lo v.hi v.at 6) (v.n - 6) count (omega arith)))
+-- the pixels behind a cursor's head are in the ring
+pub pixels_view : (ring : List ℕ) (v : View) (count : ℕ) → InView v (length ring) → 6 + count ≤ v.n → InView (front_of (passed_in v 6) count) (length ring)
+pixels_view ring v count inside some =
+    let p = ahead_in v.lo v.hi v.at 6 (record { from = inside.from; below = inside.below; held = omega (arith, inside.held) }) in
+    record { from = p.0; below = p.1; held = omega (arith, inside.held); fits = inside.fits }
 
--- copied to the front of an image
-pub pixels_pasted : (ring : List ℕ) (v : View) (count p : ℕ) (d : List ℕ) → InView v (length ring) → 6 + count ≤ v.n → p ≡ ahead v.lo v.hi v.at 6
-    → paste d 0 (words ring v.lo v.hi p count) count ≡ take count (drop 6 (words_in ring v)) ++ drop count d
-pixels_pasted ring v count p d inside some is =
+-- and copied to the front of an image
+pub pixels_pasted : (ring : List ℕ) (v : View) (count : ℕ) (d : List ℕ) → InView v (length ring) → 6 + count ≤ v.n
+    → paste d 0 (words_in ring (front_of (passed_in v 6) count)) count ≡ take count (drop 6 (words_in ring v)) ++ drop count d
+pixels_pasted ring v count d inside some =
+    let p = ahead v.lo v.hi v.at 6 in
+    let there : words ring v.lo v.hi p count ≡ take count (drop 6 (words_in ring v)) =
+    sym (ap (take count) (drop-words ring v.lo v.hi v.at v.n 6 (record { from = inside.from; below = inside.below; held = omega (arith, inside.held) }) (omega arith))
+    ∙ take_words ring v.lo v.hi p (v.n - 6) count (omega arith)) in
     ap₂ (λ (x : List ℕ) (y : List ℕ). x ++ y)
-    (take_all count (words ring v.lo v.hi p count) (rw length-words (omega arith)) ∙ pixels_from ring v count p inside some is)
+    (take_all count (words ring v.lo v.hi p count) (rw length-words (omega arith)) ∙ there)
     (ap (λ k. drop k d) (zero-add count))
 
 -- copied into a line, they lie there in a row
@@ -104,11 +106,3 @@ line_front d x n s long =
     ∙ get_or-append (take 7 b) (take n s) 0 6 (omega arith)
     ∙ get_or-take 7 b 6 0 (omega arith)
     ∙ get_or-set_same d 6 x 0 (omega arith)
-
-pub six_on : (lo hi at : ℕ) → at + 6 < hi → at + 6 ≡ ahead lo hi at 6
-unfolding ahead
-six_on lo hi at h = rw (lt-ltb (at + 6) hi h)
-
-pub six_round : (lo hi at : ℕ) → hi ≤ at + 6 → at + 6 - (hi - lo) ≡ ahead lo hi at 6
-unfolding ahead
-six_round lo hi at h = rw (le-ltb (at + 6) hi h)

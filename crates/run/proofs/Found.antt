@@ -1,6 +1,6 @@
 -- What a turn that found a command has shown.
 -- Assumes nothing.
-use mathlib.Core.Path.{◌≡◌, refl, ap, ◌∙◌}
+use mathlib.Core.Path.{◌≡◌, refl, sym, ap, ◌∙◌}
 use mathlib.Core.Bool.{Bool, true, true≢false}
 use mathlib.Core.Option.{Option, none, some}
 use mathlib.Core.List.{List, ◌++◌}
@@ -28,6 +28,8 @@ use Rattle.run.proofs.Rows.{drop-take}
 
 -- the command's words are there, a cursor's pixels among them, and the words behind them are not looked at
 pub record Found (a : Action) (n : ℕ) (w : List ℕ) : Type 0 where
+  pub offered : (entry (kind_in w)).offered ≡ true
+  pub size : n ≡ size_by (kind_in w) w
   pub action : (entry (kind_in w)).action w ≡ a
   pub good : (entry (kind_in w)).good tt w ≡ true
   pub head : (entry (kind_in w)).head_good w ≡ true
@@ -90,6 +92,8 @@ module _ (cap : ℕ) (w : List ℕ) (a : Action) (n : ℕ) where
       let is = same_action q in
       let size = same_size q in
       record {
+        offered = p;
+        size = sym size;
         action = is;
         good = y;
         head = u;

@@ -1,7 +1,8 @@
 -- What the test of NEXT_CMD says.
 -- Assumes nothing.
 use mathlib.Core.Path.{◌≡◌}
-use mathlib.Core.Bool.{true, ◌&&◌}
+use mathlib.Core.Bool.{Bool, true, ◌&&◌}
+use mathlib.Core.List.{List}
 use Prim.Native.Nat.{ℕ, ◌/◌, ◌%◌, ◌≤◌, ◌<◌}
 use native.Mathlib.Omega.{arith}
 use lib.Dec.{eqb, ltb, leb}
@@ -11,7 +12,9 @@ use Rattle.ring.specs.declared.Ring.{Ring}
 use Rattle.ring.proofs.Laws.{placed_when}
 use Rattle.ring.proofs.WaitingLaws.{between_carried}
 use Rattle.ring.specs.Waiting.{placed, next_good}
-use Rattle.run.specs.Turns.{InView, view_of}
+use Rattle.ring.specs.Acceptance.{max_words}
+use Rattle.run.specs.declared.View.{View}
+use Rattle.run.specs.Turns.{InView, Stands, view_of}
 
 pub next_says : (g : Ring) (next : ℕ) → next_good g next ≡ true → (g.min ≤ next / 4) × (next / 4 < g.max)
 unfolding next_good
@@ -19,6 +22,10 @@ next_says g next e =
     let p = both (eqb (next % 4) 0) (leb g.min (next / 4) && ltb (next / 4) g.max) e in
     let q = both (leb g.min (next / 4)) (ltb (next / 4) g.max) p.1 in
     (leb-true _ _ q.0, ltb-true _ _ q.1)
+
+-- a view from which a run may start lies in the largest ring
+pub in_largest : {posts : Bool} {v : View} {ring cursor : List ℕ} → Stands posts v ring cursor → InView v max_words
+in_largest s = record { from = s.inside.from; below = s.inside.below; held = s.inside.held; fits = s.small }
 
 -- the view of the words that wait lies in the memory
 pub in_view : (g : Ring) (m next : ℕ) → placed g m ≡ true → next_good g next ≡ true

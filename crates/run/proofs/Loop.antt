@@ -1,8 +1,9 @@
 -- The turns of a run so far, and what is left of it.
 -- Assumes nothing.
+use Rattle.std.specs.Prelude.{Option, Some, None}
+use Rattle.cursor.specs.declared.Shape.{Shape}
 use mathlib.Core.Path.{◌≡◌, refl, sym, ap, ◌∙◌}
 use mathlib.Core.Bool.{Bool, cond, true≢false}
-use mathlib.Core.Option.{none, some}
 use mathlib.Core.List.{List, ◌++◌}
 use Prim.Native.Nat.{ℕ, suc, ◌+◌, ◌-◌, ◌≤◌, ◌<◌}
 use native.Mathlib.Omega.{arith}
@@ -20,7 +21,6 @@ use Rattle.execution.specs.Turns.{LineRun, runs}
 use Rattle.execution.proofs.QueueLaws.{runs_ends, runs_exec}
 use Rattle.ring.specs.Waiting.{ahead, carried}
 use Rattle.ring.proofs.WaitingLaws.{InRing, ahead_in, ahead_zero, ahead_ahead, length-words, take_words, drop-words}
-use Rattle.cursor.specs.declared.Defined.{Defined}
 use Rattle.command.proofs.Laws.{command_laws}
 use Rattle.effect.specs.declared.Marks.{Marks}
 use Rattle.effect.specs.Effects.{Scene, Machine, done}
@@ -98,7 +98,7 @@ module _ (s : Scene) (budget : ℕ) (v₀ : View) (ring₀ : List ℕ) (m₀ : M
 
 -- commands in a row
 pub going_row : {s : Scene} {budget : ℕ} {v : View} {ring : List ℕ} {fence : ℕ} {screen : List ℕ} {end at after left : ℕ} {later painted : List ℕ}
-    → InView v (length ring) → 10 + v.lo < v.hi → end ≡ row_end v → RowGoing s budget ring v.at end fence screen at after left later painted → (defined : Defined) (cursor : List ℕ)
+    → InView v (length ring) → 10 + v.lo < v.hi → end ≡ row_end v → RowGoing s budget ring v.at end fence screen at after left later painted → (defined : Option Shape) (cursor : List ℕ)
     → Going s budget v ring (machine (marked fence defined) screen cursor (posted_in s.posts ring))
     (passed_in v (at - v.at)) later (machine (marked after defined) painted cursor (posted_in s.posts later)) left
 going_row {s} {budget} {v} {ring} {fence} {screen} {end} {at} {after} {left} {later} {painted} inside carries is Ends-there defined cursor =
@@ -122,11 +122,11 @@ going_row {s} {budget} {v} {ring} {fence} {screen} {end} {at} {after} {left} {la
 
 -- one turn that goes on
 module _ {s : Scene} {left : ℕ} {v : View} {ring : List ℕ} {m : Machine} (inside : InView v (length ring)) (carries : 10 + v.lo < v.hi) (some_left : 0 < left) where
-  by_turn : (t : O.Turn Machine) → turn s v m (words_in ring v) ≡ t → (a : After) → a ≡ turned_by s.posts v ring m t → a.stop ≡ none
+  by_turn : (t : O.Turn Machine) → turn s v m (words_in ring v) ≡ t → (a : After) → a ≡ turned_by s.posts v ring m t → a.stop ≡ None
       → Going s left v ring m a.view a.ring a.machine (left - 1)
   by_turn (ends e) q a p n = absurd (clash (sym n ∙ ap (λ (x : After). x.stop) p))
     where
-      clash : none ≡ some e → ⊥
+      clash : None ≡ Some e → ⊥
       clash h = true≢false cc
   by_turn (exec n u) q a p none-stops =
       let l = length-words ring v.lo v.hi v.at v.n in
@@ -146,12 +146,12 @@ module _ {s : Scene} {left : ℕ} {v : View} {ring : List ℕ} {m : Machine} (in
             ∙ plus_one 0 (left - (left - 1)) _ (omega arith);
       })
 
-  pub going_turn : (a : After) → a ≡ turned s v ring m → a.stop ≡ none → Going s left v ring m a.view a.ring a.machine (left - 1)
+  pub going_turn : (a : After) → a ≡ turned s v ring m → a.stop ≡ None → Going s left v ring m a.view a.ring a.machine (left - 1)
   unfolding turned
   going_turn a p n = by_turn (turn s v m (words_in ring v)) refl a p n
 
 -- and one that ends the run: nothing changed
-pub stops_there : (s : Scene) (v : View) (ring : List ℕ) (m : Machine) (a : After) (e : End) → a ≡ turned s v ring m → a.stop ≡ some e
+pub stops_there : (s : Scene) (v : View) (ring : List ℕ) (m : Machine) (a : After) (e : End) → a ≡ turned s v ring m → a.stop ≡ Some e
     → (turn s v m (words_in ring v) ≡ ends e) × (a.ring ≡ ring) × (a.machine ≡ m)
 unfolding turned
 stops_there s v ring m a e p q = go (turn s v m (words_in ring v)) refl
@@ -162,11 +162,11 @@ stops_there s v ring m a e p q = go (turn s v m (words_in ring v)) refl
         let same : f ≡ e = same_end (sym (ap (λ (x : After). x.stop) r) ∙ q) in
         (h ∙ ap ends same, ap (λ (x : After). x.ring) r, ap (λ (x : After). x.machine) r)
       where
-        same_end : some f ≡ some e → f ≡ e
+        same_end : Some f ≡ Some e → f ≡ e
         same_end z = cc
     go (exec n u) h = absurd (clash (sym (ap (λ (x : After). x.stop) (rw h at p)) ∙ q))
       where
-        clash : none ≡ some e → ⊥
+        clash : None ≡ Some e → ⊥
         clash z = true≢false cc
 
 module _ {s : Scene} {budget : ℕ} {v₀ : View} {ring₀ cursor₀ : List ℕ} {m₀ : Machine} (first : Stands s.posts v₀ ring₀ cursor₀)
@@ -279,13 +279,13 @@ going_rows {cursor} {marks} first g here is row to p = rw p (going_further first
 -- one turn more
 pub going_one : {s : Scene} {budget : ℕ} {v₀ : View} {ring₀ cursor₀ : List ℕ} {m₀ : Machine} {v : View} {ring cursor : List ℕ} {m : Machine} {left : ℕ}
     → Stands s.posts v₀ ring₀ cursor₀ → Going s budget v₀ ring₀ m₀ v ring m left → Stands s.posts v ring cursor → 0 < left
-    → (a : After) → a ≡ turned s v ring m → a.stop ≡ none → Going s budget v₀ ring₀ m₀ a.view a.ring a.machine (left - 1)
+    → (a : After) → a ≡ turned s v ring m → a.stop ≡ None → Going s budget v₀ ring₀ m₀ a.view a.ring a.machine (left - 1)
 going_one first g here h a p q = going_further first g (going_turn here.inside here.carries h a p q)
 
 -- what the run gives where a turn ends it
 pub going_stops : {s : Scene} {budget : ℕ} {v₀ : View} {ring₀ cursor₀ : List ℕ} {m₀ : Machine} {v : View} {ring : List ℕ} {m : Machine} {left : ℕ}
     → Stands s.posts v₀ ring₀ cursor₀ → Going s budget v₀ ring₀ m₀ v ring m left → 0 < left
-    → (a : After) → a ≡ turned s v ring m → (e : End) → a.stop ≡ some e
+    → (a : After) → a ≡ turned s v ring m → (e : End) → a.stop ≡ Some e
     → (o : Machine) → o.marks ≡ m.marks → o.screen ≡ a.machine.screen → o.cursor ≡ a.machine.cursor
     → o.posted ≡ posted_in (posts_in (place_of v)) a.ring → a.machine.posted ≡ posted_in s.posts a.ring
     → record { answer = Claim.ended e; count = budget - left; place = place_of v; ring = a.ring; machine = o }

@@ -1,5 +1,7 @@
 -- Commands in a row of words.
 -- Assumes nothing.
+use Rattle.std.specs.Prelude.{Option}
+use Rattle.cursor.specs.declared.Shape.{Shape}
 use mathlib.Core.Path.{◌≡◌, refl, sym, ap, ◌∙◌}
 use mathlib.Core.Bool.{cond, true, true≢false}
 use mathlib.Core.Option.{none}
@@ -10,14 +12,13 @@ use native.Mathlib.Nat.{zero-add, suc-add}
 use lib.Dec.{eqb, ltb}
 use lib.ListN.{length, take, drop, length-drop}
 use lib.Seq.{take-nil, drop-drop, drop-append-le, length-take-le}
-use borrow.Author.Tests.{ne_eqb, eq-eqb, ltb-true, ltb-false}
+use borrow.Author.Tests.{ne_eqb, ltb-true, ltb-false}
 use borrow.Table.Steps.{cases}
 use Rattle.execution.specs.declared.Cause.TheVariants.{BadOperand}
 use Rattle.execution.specs.Straight.{exec}
 use Rattle.execution.specs.Table.{turn_of}
 use Rattle.execution.specs.Turns.{runs}
 use Rattle.execution.proofs.QueueLaws.{runs_exec}
-use Rattle.cursor.specs.declared.Defined.{Defined}
 use Rattle.command.specs.declared.Action.{Action}
 use Rattle.command.specs.declared.Action.TheVariants as A
 use Rattle.command.specs.declared.Step.{Step}
@@ -31,7 +32,7 @@ use Rattle.run.specs.declared.Pause.TheVariants.{Spent, Short, Faults}
 use Rattle.run.specs.Run.{known_of, machine, table, stamped, posting, posted_in}
 use Rattle.run.specs.Turns.{row_in, Clear}
 use Rattle.run.specs.Going.{plus, line, marked, pause_of, Pauses, RowGoing}
-use Rattle.run.proofs.Counts.{plus_zero, plus_one}
+use Rattle.run.proofs.Counts.{plus_one}
 use Rattle.run.proofs.Posting.{posted_after_none, length-written, written_row, posted_written, written_further}
 
 -- ---- rows
@@ -61,7 +62,7 @@ keeps_cursor (A.Define s) w cursor k = absurd k
 keeps_cursor (A.Fence number) w cursor k = refl
 keeps_cursor A.Nothing w cursor k = refl
 
-keeps_defined : (a : Action) (defined : Defined) → KeepsCursor a → defined_after a defined ≡ defined
+keeps_defined : (a : Action) (defined : Option Shape) → KeepsCursor a → defined_after a defined ≡ defined
 unfolding defined_after
 keeps_defined (A.Update r) defined k = refl
 keeps_defined (A.Fill r colour rop) defined k = refl
@@ -70,7 +71,7 @@ keeps_defined (A.Define s) defined k = absurd k
 keeps_defined (A.Fence number) defined k = refl
 keeps_defined A.Nothing defined k = refl
 
-done_kept : (s : Scene) (a : Action) (w : List ℕ) (fence : ℕ) (defined : Defined) (screen cursor : List ℕ) (posted : ℕ) → KeepsCursor a
+done_kept : (s : Scene) (a : Action) (w : List ℕ) (fence : ℕ) (defined : Option Shape) (screen cursor : List ℕ) (posted : ℕ) → KeepsCursor a
     → done s a w (machine (marked fence defined) screen cursor posted)
     ≡ machine (marked (fence_after a fence) defined) (screen_after s a screen) cursor (posted_after s.posts a posted)
 unfolding done
@@ -82,17 +83,6 @@ done_kept s a w fence defined screen cursor posted k = λ i. record {
 }
 
 -- ---- the loop
-
-module _ (s : Scene) (budget : ℕ) (memory₀ : List ℕ) (a e : ℕ) (fence₀ : ℕ) (screen₀ : List ℕ) where
-  pub row_start : a ≤ e → RowGoing s budget memory₀ a e fence₀ screen₀ a fence₀ budget memory₀ screen₀
-  row_start h = record {
-    bounded = omega arith;
-    from = omega arith;
-    within = h;
-    still = λ q. (refl, refl, refl);
-    stamp = rw (eq-eqb budget budget refl);
-    rest = λ cap tail defined cursor p q. let z : budget - budget ≡ 0 = omega arith in rw z (plus_zero _);
-  }
 
 module _ {s : Scene} {budget : ℕ} {memory₀ : List ℕ} {a e : ℕ} {fence₀ : ℕ} {screen₀ : List ℕ} (low : 4 ≤ a) (there : e ≤ length memory₀)
     (clear : Clear s.posts a) {at fence left : ℕ} {memory screen : List ℕ}
@@ -124,7 +114,7 @@ module _ {s : Scene} {budget : ℕ} {memory₀ : List ℕ} {a e : ℕ} {fence₀
     abbrev posts_now : ℕ
     posts_now = posted_after s.posts act (posted_in s.posts memory)
 
-    turns : (cap : ℕ) (tail : List ℕ) (defined : Defined) (cursor : List ℕ) → 10 ≤ cap → e - a ≤ cap
+    turns : (cap : ℕ) (tail : List ℕ) (defined : Option Shape) (cursor : List ℕ) → 10 ≤ cap → e - a ≤ cap
         → turn_of cap (table s) (machine (marked fence defined) screen cursor (posted_in s.posts memory)) (row_in memory₀ at e ++ tail)
         ≡ exec n (machine (marked (fence_after act fence) defined) (screen_after s act screen) cursor posts_now)
     turns cap tail defined cursor h k =
@@ -139,7 +129,7 @@ module _ {s : Scene} {budget : ℕ} {memory₀ : List ℕ} {a e : ℕ} {fence₀
       posted_now : posted_in s.posts later ≡ posts_now
       posted_now = ap (posted_in s.posts) wrote ∙ posted_written s.posts (at + n) posts_now memory row_clear (posted_after_none s.posts act memory)
 
-      one : (cap : ℕ) (tail : List ℕ) (defined : Defined) (cursor : List ℕ) → 10 ≤ cap → e - a ≤ cap
+      one : (cap : ℕ) (tail : List ℕ) (defined : Option Shape) (cursor : List ℕ) → 10 ≤ cap → e - a ≤ cap
           → runs (turn_of cap (table s)) budget (line (row_in memory₀ a e ++ tail) (machine (marked fence₀ defined) screen₀ cursor (posted_in s.posts memory₀)))
           ≡ plus (budget - (left - 1)) (runs (turn_of cap (table s)) (left - 1)
           (line (row_in memory₀ (at + n) e ++ tail) (machine (marked number defined) painted cursor (posted_in s.posts later))))

@@ -1,7 +1,9 @@
 -- One turn, by what its first ten words say.
 -- Assumes nothing.
+use Rattle.std.specs.Prelude.{Option, Some, None, Result, Ok, Err}
+use Rattle.cursor.specs.declared.Shape.{Shape}
 use mathlib.Core.Path.{◌≡◌, refl, sym, ap, ◌∙◌}
-use mathlib.Core.Option.{none, some}
+use mathlib.Core.Option.{some}
 use mathlib.Core.List.{List, ◌++◌}
 use Prim.Native.Nat.{ℕ, ◌+◌, ◌-◌, ◌≤◌, ◌<◌}
 use mathlib.Core.Bool.{Bool, true, false}
@@ -22,11 +24,8 @@ use Rattle.execution.specs.Table.{turn_of}
 use Rattle.ring.specs.Acceptance.{max_words}
 use Rattle.ring.specs.Waiting.{carried}
 use Rattle.ring.proofs.WaitingLaws.{ahead_in, length-words}
-use Rattle.cursor.specs.declared.Defined.{Defined}
 use Rattle.command.specs.declared.Action.{Action}
 use Rattle.command.specs.declared.Data.{Data}
-use Rattle.command.specs.declared.Finding.{Finding}
-use Rattle.command.specs.declared.Finding.TheVariants.{Ends, Executes}
 use Rattle.command.specs.declared.Step.TheVariants as Step
 use Rattle.command.specs.Commands.{entry, kind_of, kind_in}
 use Rattle.command.specs.Findings.{finds_in, as_turn, kind_with, begun, step_in, on_machine}
@@ -51,13 +50,13 @@ turned_by_lem s v ring m t e = ap (turned_by s.posts v ring m) e
 
 -- a turn that ends
 pub stops : (s : Scene) (v : View) (ring : List ℕ) (m : Machine) (e : End) → turn s v m (words_in ring v) ≡ ends e
-    → record { stop = some e; view = v; ring = ring; machine = m } ≡ turned s v ring m
+    → record { stop = Some e; view = v; ring = ring; machine = m } ≡ turned s v ring m
 stops s v ring m e q = sym (turned_by_lem s v ring m (ends e) q)
 
 -- a command was executed, STOP passed it, ring word 3 says so, and word 6 has what is posted
 pub goes_on : (s : Scene) (v : View) (ring : List ℕ) (m : Machine) (n : ℕ) (u : Machine) → turn s v m (words_in ring v) ≡ exec n u
     → (later : List ℕ) → later ≡ stamped (passed_in v n).at (posting s.posts u.posted ring) → (t : Machine) → t ≡ u
-    → record { stop = none; view = passed_in v n; ring = later; machine = t } ≡ turned s v ring m
+    → record { stop = None; view = passed_in v n; ring = later; machine = t } ≡ turned s v ring m
 goes_on s v ring m n u q later p t same = rw (p, same) (sym (turned_by_lem s v ring m (exec n u) q))
 
 -- where STOP stands behind n words of a view
@@ -86,14 +85,14 @@ module _ (v : View) (ring : List ℕ) (cap : ℕ) (tail : Data) (head : List ℕ
   finds_words : finds_in tt cap (begun tail head v.n) ≡ finds_in tt cap w
   finds_words = finds_alike tt cap w (begun tail head v.n) (long ∙ sym (length-begun tail head v.n)) (kind_begun tail head v.n there ∙ sym kind) word (omega (arith, long))
 
-  module _ (f : Finding) (said : as_turn f ≡ finds_in tt cap (begun tail head v.n)) (s : Scene) (m : Machine) where
+  module _ (f : Result (Action × ℕ) End) (said : as_turn f ≡ finds_in tt cap (begun tail head v.n)) (s : Scene) (m : Machine) where
     by_finding : turn_of cap (table s) m w ≡ on_machine (done s) m w (as_turn f)
     by_finding = turn_found known_of (done s) cap m w ∙ ap (on_machine (done s) m w) (sym (said ∙ finds_words))
 
-    pub data_ends : (e : End) → f ≡ Ends e → turn_of cap (table s) m w ≡ ends e
+    pub data_ends : (e : End) → f ≡ Err e → turn_of cap (table s) m w ≡ ends e
     data_ends e q = by_finding ∙ rw q
 
-    pub data_executes : (a : Action) (n : ℕ) → f ≡ Executes a n → turn_of cap (table s) m w ≡ exec n (done s a (take n w) m)
+    pub data_executes : (a : Action) (n : ℕ) → f ≡ Ok (a, n) → turn_of cap (table s) m w ≡ exec n (done s a (take n w) m)
     data_executes a n q = by_finding ∙ rw q
 
   module _ (a : Action) (n : ℕ) (said : exec n (some a) ≡ finds_in tt cap (begun tail head v.n)) where
@@ -169,7 +168,7 @@ module _ (s : Scene) (v : View) (ring : List ℕ) (inside : InView v (length rin
   line_posted false = refl
 
   -- spent: the command was executed
-  line_spent : left ≡ 0 → (defined : Defined) (cursor : List ℕ)
+  line_spent : left ≡ 0 → (defined : Option Shape) (cursor : List ℕ)
       → turn s v (machine (marked fence defined) screen cursor (posted_in s.posts ring)) all
       ≡ exec (at - 7) (machine (marked number defined) screen' cursor (posted_in s.posts memory'))
   line_spent z defined cursor =
@@ -184,9 +183,9 @@ module _ (s : Scene) (v : View) (ring : List ℕ) (inside : InView v (length rin
       rw is at o.1.0
 
   -- what it posted in the line went to the ring, STOP passed it, and ring word 3 says so
-  pub line_goes : left ≡ 0 → (defined : Defined) (cursor posted later : List ℕ) → posted ≡ posting s.posts (posted_in s.posts memory') ring
+  pub line_goes : left ≡ 0 → (defined : Option Shape) (cursor posted later : List ℕ) → posted ≡ posting s.posts (posted_in s.posts memory') ring
       → later ≡ stamped (passed_in v (at - 7)).at posted
-      → record { stop = none; view = passed_in v (at - 7); ring = later; machine = machine (marked number defined) screen' cursor (posted_in s.posts later) }
+      → record { stop = None; view = passed_in v (at - 7); ring = later; machine = machine (marked number defined) screen' cursor (posted_in s.posts later) }
       ≡ turned s v ring (machine (marked fence defined) screen cursor (posted_in s.posts ring))
   line_goes z defined cursor posted later p q =
       let to = (passed_in v (at - 7)).at in

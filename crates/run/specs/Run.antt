@@ -1,5 +1,6 @@
 -- A run: document 01, "One command out of the ring", and document 02, P1: "The fence where guests look".
-use Rattle.std.specs.Prelude.{ℕ, ◌-◌, ◌*◌, ◌/◌, ◌<◌, ◌≡◌, Bool, cond, ◌&&◌, List, eqb, leb, length, get_or, set}
+use Rattle.std.specs.Prelude.{ℕ, ◌-◌, ◌*◌, ◌/◌, ◌<◌, ◌≡◌, Bool, cond, ◌&&◌, List, eqb, leb, length, get_or, set, Option, Some, None}
+use Rattle.execution.specs.declared.End.{End}
 use Rattle.execution.specs.declared.End.TheVariants.{Fault}
 use Rattle.execution.specs.declared.Cause.TheVariants.{BadNext}
 use Rattle.execution.specs.Straight.{ends}
@@ -15,8 +16,6 @@ use Rattle.command.specs.declared.Kind.TheVariants.{Fence}
 use Rattle.command.specs.Commands.{Known, entry, kind_in, commands}
 use Rattle.effect.specs.declared.Marks.{Marks}
 use Rattle.effect.specs.Effects.{Scene, Machine, Paints, done}
-use Rattle.run.specs.declared.RunEnd.{RunEnd}
-use Rattle.run.specs.declared.RunEnd.TheVariants.{Spent, Ended}
 use Rattle.run.specs.declared.RingRun.{RingRun}
 
 -- The machine of straight execution, from what the code holds.
@@ -72,14 +71,15 @@ pub record RingOutcome : Type 0 where
   pub ring : List ℕ
   pub machine : Machine
 
-abbrev pub answer_of : RunEnd → Claim.Answer
-answer_of Spent = Claim.spent
-answer_of (Ended e) = Claim.ended e
+-- How a turn ended the run, or none where the budget was spent first.
+abbrev pub answer_of : Option End → Claim.Answer
+answer_of None = Claim.spent
+answer_of (Some e) = Claim.ended e
 
 -- From what the code gives, and the memories at its exit: what is posted stands in the ring.
 abbrev pub ring_outcome : RingRun → List ℕ → List ℕ → List ℕ → RingOutcome
 ring_outcome r ring screen cursor = record {
-  answer = answer_of r.answer;
+  answer = answer_of r.end;
   count = r.count;
   place = r.ring;
   ring = ring;

@@ -1,5 +1,5 @@
 -- The words that wait in a ring memory, as a run walks over them: document 01, "One command out of the ring". Nothing here has to be believed.
-use Rattle.std.specs.Prelude.{ℕ, ◌+◌, ◌-◌, ◌*◌, ◌/◌, ◌≤◌, ◌<◌, Bool, true, cond, List, ltb, eqb, length, take, drop, get_or, ◌≡◌}
+use Rattle.std.specs.Prelude.{ℕ, ◌+◌, ◌-◌, ◌*◌, ◌/◌, ◌≤◌, ◌<◌, Bool, true, cond, List, ltb, eqb, length, take, drop, get_or, ◌≡◌, Option}
 use Rattle.cursor.specs.Plane.{max_side, image_words}
 use Rattle.ring.specs.declared.Ring.{Ring}
 use Rattle.ring.specs.Acceptance.{max_words}
@@ -8,8 +8,8 @@ use Rattle.command.specs.declared.Action.{Action}
 use Rattle.command.specs.declared.Action.TheVariants.{Update, Fill, Copy, Define, Fence, Nothing}
 use Rattle.run.specs.declared.View.{View}
 use Rattle.run.specs.declared.RingRun.{RingRun}
-use Rattle.run.specs.declared.RunEnd.{RunEnd}
 use Rattle.execution.specs.declared.Cause.TheVariants.{BadNext}
+use Rattle.execution.specs.declared.End.{End}
 use Rattle.execution.specs.declared.End.TheVariants.{Fault}
 use Rattle.effect.specs.declared.Marks.{Marks}
 use Rattle.execution.specs.Claim as Claim
@@ -38,6 +38,10 @@ pub record Stands (posts : Bool) (v : View) (ring cursor : List ℕ) : Type 0 wh
   pub carries : 10 + v.lo < v.hi
   pub image : length cursor ≡ image_words
   pub posted : posts ≡ posts_in (place_of v)
+
+-- Its first k words.
+abbrev pub front_of : View → ℕ → View
+front_of v k = record { lo = v.lo; hi = v.hi; at = v.at; n = k }
 
 -- A view behind its first k words.
 abbrev pub passed_in : View → ℕ → View
@@ -79,8 +83,8 @@ pub record LineOf (ring : List ℕ) (v : View) (line : List ℕ) (e : ℕ) : Typ
   pub six : get_or line 6 0 ≡ get_or ring 6 0
 
 -- What the code gives that ended at a view.
-abbrev pub ran_to : View → RunEnd → ℕ → Marks → RingRun
-ran_to v answer count marks = record { answer = answer; count = count; ring = place_of v; marks = marks }
+abbrev pub ran_to : View → Option End → ℕ → Marks → RingRun
+ran_to v end count marks = record { end = end; count = count; ring = place_of v; marks = marks }
 
 -- The answer where NEXT_CMD is unusable: "budget used up: 2" comes before 13.
 unfoldable pub next_unusable : ℕ → Claim.Answer

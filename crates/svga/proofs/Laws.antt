@@ -1,4 +1,5 @@
 -- Laws of lent words: what is written into them, and calls on the device that they spell.
+use Rattle.std.specs.Prelude.{Option, Result}
 use mathlib.Core.Path.{◌≡◌, refl, ◌∙◌}
 use mathlib.Core.List.{List, [], ◌∷◌}
 use Prim.Native.Nat.{ℕ}
@@ -8,9 +9,10 @@ use borrow.Author.Tests.{eq-eqb}
 use Rattle.device.specs.declared.Device.{Device}
 use Rattle.register_write.proofs.Refusals.{ill_formed_write}
 use Rattle.register_read.specs.Registers.{read_of}
-use Rattle.device_run.specs.Run.{Lent, run_of}
+use Rattle.device_run.specs.declared.Ran.{Ran}
+use Rattle.device_run.specs.declared.RunError.{RunError}
+use Rattle.device_run.specs.Run.{Lent, lent, RunOutcome, ran_of, run_of}
 use Rattle.adapter.specs.Picture.{picture_of}
-use Rattle.device_words.specs.declared.Held.{Held}
 use Rattle.device_words.specs.Words.{words_of, spelled_in, only_well_formed, held_in, put_in}
 use Rattle.device_words.proofs.RoundTrip.{by_held}
 use Rattle.svga.specs.Calls.{write_held, svga_write, read_held, svga_read, run_held, svga_run, picture_held, svga_picture, edges_held, svga_offscreen, fence_held, svga_fence, passed_held, svga_passed}
@@ -28,9 +30,15 @@ four_stored (w ∷ x ∷ y ∷ []) a b c d e = absurd (omega (arith, e))
 four_stored (w ∷ x ∷ y ∷ z ∷ []) a b c d e = refl
 four_stored (w ∷ x ∷ y ∷ z ∷ v ∷ l) a b c d e = absurd (omega (arith, e))
 
+-- Equal memories hold the same.
+pub ran_equal : (d : Device) (r : Result Ran RunError) (o : RunOutcome) {ring framebuffer screen cursor ring' framebuffer' screen' cursor' : List ℕ}
+    → ran_of d r (lent ring framebuffer screen cursor) ≡ o → ring' ≡ ring → framebuffer' ≡ framebuffer → screen' ≡ screen → cursor' ≡ cursor
+    → ran_of d r (lent ring' framebuffer' screen' cursor') ≡ o
+ran_equal d r o e p q s t = rw (p, q, s, t) e
+
 -- ---- the device that 64 words spell: these calls answer for one that no call can have made what they answer for none
 
-module _ (w : List ℕ) (spelled : Held) (whole : length w ≡ 64) (is : spelled ≡ spelled_in w) where
+module _ (w : List ℕ) (spelled : Option Device) (whole : length w ≡ 64) (is : spelled ≡ spelled_in w) where
   pub svga_write_held : (ring : List ℕ) (index value : ℕ) → write_held w ring index value spelled ≡ svga_write w ring index value
   unfolding write_held svga_write
   svga_write_held ring index value =
@@ -52,16 +60,3 @@ module _ (w : List ℕ) (spelled : Held) (whole : length w ≡ 64) (is : spelled
   svga_picture_held screen image output =
       rw (is, eq-eqb (length w) 64 whole)
       (by_held w (λ s h. picture_held screen image output s ≡ picture_held screen image output h) (λ d. refl) (λ d f e. rw f) refl)
-
-  -- the offscreen rectangle and the fences make the test themselves
-  pub svga_edges_held : (edges : List ℕ) → length edges ≡ 4 → edges_held edges (only_well_formed spelled) ≡ svga_offscreen w edges
-  unfolding svga_offscreen held_in
-  svga_edges_held edges four = rw (is, eq-eqb (length w) 64 whole, eq-eqb (length edges) 4 four)
-
-  pub svga_fence_held : fence_held (only_well_formed spelled) ≡ svga_fence w
-  unfolding svga_fence held_in
-  svga_fence_held = rw (is, eq-eqb (length w) 64 whole)
-
-  pub svga_passed_held : (f : ℕ) → passed_held f (only_well_formed spelled) ≡ svga_passed w f
-  unfolding svga_passed held_in
-  svga_passed_held f = rw (is, eq-eqb (length w) 64 whole)

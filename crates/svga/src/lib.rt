@@ -3,19 +3,16 @@
 #![tactic(auto)]
 
 ghost use Rattle.std.specs.Prelude.{◌≡◌, length};
-ghost use Rattle.register_read.specs.Registers.{read_of};
-ghost use Rattle.device_words.specs.declared.Held.TheVariants.{Device as Holds};
-ghost use Rattle.device_words.specs.Words.{only_well_formed};
+ghost use Rattle.device_words.specs.Words.{held_in};
 ghost use Rattle.ring.specs.Append.{append_of};
 ghost use Rattle.writer.specs.Writing.{command, write_of};
-ghost use Rattle.device_run.specs.Run.{lent};
+ghost use Rattle.device_run.specs.Run.{lent, ran_of, run_of};
 ghost use Rattle.svga.specs.Calls.{packed, call, svga_make, svga_write, svga_read, run_call, svga_run, svga_picture};
-ghost use Rattle.svga.specs.Calls.{edges_call, edge_words, edges_held, svga_offscreen, fence_held, svga_fence, passed_held, svga_passed};
+ghost use Rattle.svga.specs.Calls.{edges_call, edge_words, svga_offscreen, svga_fence, svga_passed};
 
-use adapter::{Device, Edges, Making, Value};
-use device_words::Held;
+use adapter::{Device, Edges, Memories, Ran, RunError};
 
-// Answer numbers of these calls' own: a lent length, and words that hold no device or sizes of none.
+// Answer numbers of these calls' own, as C has them: a lent length, and words that hold no device.
 const LENT_LENGTH: u32 = 20;
 
 const NOT_CONFIGURED: u32 = 22;
@@ -24,12 +21,23 @@ const TOO_LARGE: u32 = 24;
 
 const NO_REGISTER: u32 = 30;
 
-const SIZES_REFUSED: u32 = 34;
-
+// For C one number has both.
 fn pack(answer: u32, value: u32) -> u64
     ensures { result ≡ packed answer value }
 {
     answer as u64 * 4294967296 + value as u64
+}
+
+// The well-formed device that the words hold. The calls that test it themselves go by `device_words::spelled_in`.
+#[tactic(auto, unfolding(device_words::specs::Words::held_in))]
+fn held(device: &[u32]) -> Option<Device>
+    ensures { result ≡ held_in device.now }
+{
+    let d = device_words::spelled_in(device)?;
+    if !adapter::is_well_formed(d) {
+        return None;
+    }
+    Some(d)
 }
 
 // A device for a ring memory of memory bytes and pixels pixels.
@@ -41,15 +49,12 @@ pub fn svga_make(device: &mut [u32], memory: u32, pixels: u32) -> u32
     if device.len() != 64 {
         return LENT_LENGTH;
     }
-    let making = adapter::make(memory, pixels);
-    match making {
-        Making::Made(d) => {
+    match adapter::make(memory, pixels) {
+        Ok(d) => {
             device_words::put_in(device, d);
-            return 0;
+            0
         }
-        Making::Refused => {
-            return SIZES_REFUSED;
-        }
+        Err(e) => u32::from(e),
     }
 }
 
@@ -62,31 +67,15 @@ pub fn svga_write(device: &mut [u32], ring: &[u32], index: u32, value: u32) -> u
     if device.len() != 64 {
         return LENT_LENGTH;
     }
-    let spelled = device_words::spelled_in(device);
-    match spelled {
-        Held::Device(d) => {
-            let w = adapter::write(d, ring, index, value);
-            let answer = w.answer;
-            device_words::put_in(device, w.device);
-            return adapter::write_number(answer);
+    let Some(d) = device_words::spelled_in(device) else {
+        return NO_REGISTER;
+    };
+    match adapter::write(d, ring, index, value) {
+        Ok(written) => {
+            device_words::put_in(device, written);
+            0
         }
-        Held::Nothing => {
-            return NO_REGISTER;
-        }
-    }
-}
-
-fn read_value(d: Device, index: u32) -> u64
-    ensures { result ≡ packed (read_of d index).answer (read_of d index).value }
-{
-    let value = adapter::read(d, index);
-    match value {
-        Value::Is(v) => {
-            return pack(0, v);
-        }
-        Value::NoRegister => {
-            return pack(NO_REGISTER, 0);
-        }
+        Err(e) => u32::from(e),
     }
 }
 
@@ -99,15 +88,34 @@ pub fn svga_read(device: &[u32], index: u32) -> u64
     if device.len() != 64 {
         return pack(LENT_LENGTH, 0);
     }
-    let spelled = device_words::spelled_in(device);
-    match spelled {
-        Held::Device(d) => {
-            return read_value(d, index);
-        }
-        Held::Nothing => {
-            return pack(NO_REGISTER, 0);
-        }
+    let Some(d) = device_words::spelled_in(device) else {
+        return pack(NO_REGISTER, 0);
+    };
+    match adapter::read(d, index) {
+        Ok(value) => pack(0, value),
+        Err(e) => pack(u32::from(e), 0),
     }
+}
+
+// A run on memories that are lent one by one, as C lends them.
+fn run_lent(
+    d: Device,
+    ring: &mut [u32],
+    framebuffer: &[u32],
+    screen: &mut [u32],
+    cursor: &mut [u32],
+    budget: u32,
+) -> Result<Ran, RunError>
+    ensures { ran_of d result (lent ring.new framebuffer.now screen.new cursor.new)
+        ≡ run_of d (lent ring.old framebuffer.now screen.old cursor.old) budget }
+{
+    let mut memories = Memories {
+        ring,
+        framebuffer,
+        screen,
+        cursor,
+    };
+    adapter::run(d, &mut memories, budget)
 }
 
 // A run: the answer in the high half, the commands consumed in the low.
@@ -127,17 +135,15 @@ pub fn svga_run(
     if device.len() != 64 {
         return pack(LENT_LENGTH, 0);
     }
-    let spelled = device_words::spelled_in(device);
-    match spelled {
-        Held::Device(d) => {
-            let ran = adapter::run(d, ring, framebuffer, screen, cursor, budget);
-            let answer = ran.answer;
+    let Some(d) = device_words::spelled_in(device) else {
+        return pack(NOT_CONFIGURED, 0);
+    };
+    match run_lent(d, ring, framebuffer, screen, cursor, budget) {
+        Ok(ran) => {
             device_words::put_in(device, ran.device);
-            return pack(adapter::run_number(answer), ran.count);
+            pack(adapter::run_number(ran.end), ran.count)
         }
-        Held::Nothing => {
-            return pack(NOT_CONFIGURED, 0);
-        }
+        Err(e) => pack(u32::from(e), 0),
     }
 }
 
@@ -151,15 +157,12 @@ pub fn svga_picture(device: &[u32], screen: &[u32], cursor: &[u32], output: &mut
     if device.len() != 64 {
         return LENT_LENGTH;
     }
-    let spelled = device_words::spelled_in(device);
-    match spelled {
-        Held::Device(d) => {
-            let answer = adapter::picture(d, screen, cursor, output);
-            return adapter::picture_number(answer);
-        }
-        Held::Nothing => {
-            return TOO_LARGE;
-        }
+    let Some(d) = device_words::spelled_in(device) else {
+        return TOO_LARGE;
+    };
+    match adapter::picture(d, screen, cursor, output) {
+        Ok(()) => 0,
+        Err(e) => u32::from(e),
     }
 }
 
@@ -167,108 +170,54 @@ fn put_edges(edges: &mut [u32], e: Edges)
     requires { length edges.old ≡ 4 }
     ensures { edges.new ≡ edge_words e }
 {
-    edges[0] = e.left;
-    edges[1] = e.top;
-    edges[2] = e.right;
-    edges[3] = e.bottom;
-}
-
-#[tactic(auto, unfolding(crate::specs::Calls::edges_held))]
-fn put_offscreen(edges: &mut [u32], d: Device) -> u32
-    requires { length edges.old ≡ 4 }
-    ensures { edges_call result edges.new ≡ edges_held edges.old (only_well_formed (Holds d)) }
-{
-    let well_formed = adapter::is_well_formed(d);
-    if !well_formed {
-        return NO_REGISTER;
-    }
-    let e = adapter::offscreen(d);
-    put_edges(edges, e);
-    0
+    edges.copy_from_slice(&[e.left, e.top, e.right, e.bottom]);
 }
 
 // The usable offscreen rectangle: left, top, right, bottom.
 // Rules out: width and height in place of right and bottom; four zeros and answer 0 for words that hold no device.
-#[tactic(auto, unfolding(crate::specs::Calls::svga_offscreen))]
+#[tactic(auto, unfolding(crate::specs::Calls::svga_offscreen, crate::specs::Calls::edges_held))]
 pub fn svga_offscreen(device: &[u32], edges: &mut [u32]) -> u32
     ensures { edges_call result edges.new ≡ svga_offscreen device.now edges.old }
 {
-    if device.len() != 64 {
+    if device.len() != 64 || edges.len() != 4 {
         return LENT_LENGTH;
     }
-    if edges.len() != 4 {
-        return LENT_LENGTH;
+    match held(device) {
+        Some(d) => {
+            put_edges(edges, adapter::offscreen(d));
+            0
+        }
+        None => NO_REGISTER,
     }
-    let spelled = device_words::spelled_in(device);
-    match spelled {
-        Held::Device(d) => put_offscreen(edges, d),
-        Held::Nothing => NO_REGISTER,
-    }
-}
-
-#[tactic(auto, unfolding(crate::specs::Calls::fence_held))]
-fn fence_value(d: Device) -> u64
-    ensures { result ≡ fence_held (only_well_formed (Holds d)) }
-{
-    let well_formed = adapter::is_well_formed(d);
-    if !well_formed {
-        return pack(NO_REGISTER, 0);
-    }
-    pack(0, adapter::fence(d))
 }
 
 // The last fence executed, in the low half.
 // Rules out: a fence of words that hold no device; 0 always.
-#[tactic(auto, unfolding(crate::specs::Calls::svga_fence))]
+#[tactic(auto, unfolding(crate::specs::Calls::svga_fence, crate::specs::Calls::fence_held))]
 pub fn svga_fence(device: &[u32]) -> u64
     ensures { result ≡ svga_fence device.now }
 {
     if device.len() != 64 {
         return pack(LENT_LENGTH, 0);
     }
-    let spelled = device_words::spelled_in(device);
-    match spelled {
-        Held::Device(d) => {
-            return fence_value(d);
-        }
-        Held::Nothing => {
-            return pack(NO_REGISTER, 0);
-        }
+    match held(device) {
+        Some(d) => pack(0, adapter::fence(d)),
+        None => pack(NO_REGISTER, 0),
     }
-}
-
-#[tactic(auto, unfolding(crate::specs::Calls::passed_held))]
-fn passed_value(d: Device, fence: u32) -> u64
-    ensures { result ≡ passed_held fence (only_well_formed (Holds d)) }
-{
-    let well_formed = adapter::is_well_formed(d);
-    if !well_formed {
-        return pack(NO_REGISTER, 0);
-    }
-    let passed = adapter::fence_passed(d, fence);
-    if passed {
-        return pack(0, 1);
-    }
-    pack(0, 0)
 }
 
 // Whether a fence has passed: 1 or 0, in the low half.
 // Rules out: fence 2 passed when the last is 1; a refusal that reads as passed.
-#[tactic(auto, unfolding(crate::specs::Calls::svga_passed))]
+#[tactic(auto, unfolding(crate::specs::Calls::svga_passed, crate::specs::Calls::passed_held))]
 pub fn svga_fence_passed(device: &[u32], fence: u32) -> u64
     ensures { result ≡ svga_passed device.now fence }
 {
     if device.len() != 64 {
         return pack(LENT_LENGTH, 0);
     }
-    let spelled = device_words::spelled_in(device);
-    match spelled {
-        Held::Device(d) => {
-            return passed_value(d, fence);
-        }
-        Held::Nothing => {
-            return pack(NO_REGISTER, 0);
-        }
+    match held(device) {
+        Some(d) => pack(0, u32::from(adapter::fence_passed(d, fence))),
+        None => pack(NO_REGISTER, 0),
     }
 }
 
@@ -277,8 +226,10 @@ pub fn svga_fence_passed(device: &[u32], fence: u32) -> u64
 pub fn svga_append(ring: &mut [u32], word: u32) -> u32
     ensures { record { answer = result; ring = ring.new } ≡ append_of ring.old word }
 {
-    let answer = ring::append(ring, word);
-    ring::append_number(answer)
+    match ring::append(ring, word) {
+        Ok(()) => 0,
+        Err(e) => u32::from(e),
+    }
 }
 
 // A whole command, appended as a guest does, or nothing: its number and arguments, its pixels, its data.
@@ -287,6 +238,8 @@ pub fn svga_append_command(ring: &mut [u32], head: &[u32], pixels: &[u32], bytes
     ensures { record { answer = result; ring = ring.new }
         ≡ write_of ring.old (command head.now pixels.now bytes.now) }
 {
-    let answer = writer::write(ring, head, pixels, bytes);
-    writer::writer_number(answer)
+    match writer::write(ring, head, pixels, bytes) {
+        Ok(()) => 0,
+        Err(e) => u32::from(e),
+    }
 }

@@ -1,14 +1,6 @@
 -- A call on lent words is the device's own call on the device that they hold, or it is refused. Words that hold a device go on holding one.
 -- Assumes nothing.
-use mathlib.Core.Path.{◌≡◌, refl}
-use mathlib.Core.Bool.{true, false}
-use mathlib.Core.List.{List, [], ◌∷◌}
-use mathlib.Core.Logic.{◌⊎◌, inl, inr}
-use Prim.Native.Nat.{ℕ, zero, suc, ◌≤◌, ◌<◌}
-use native.Mathlib.Omega.{arith}
-use lib.Dec.{eqb}
-use lib.ListN.{length, get_or}
-use borrow.Author.Tests.{eq-eqb, eqb-true}
+use Rattle.std.proofs.Common.{None, Some, ◌≡◌, refl, true, false, List, [], ◌∷◌, ◌⊎◌, inl, inr, ℕ, zero, suc, ◌≤◌, ◌<◌, arith, eqb, length, get_or, eq-eqb, eqb-true}
 use borrow.Table.Steps.{cases}
 use Rattle.device.specs.declared.Device.{Device}
 use Rattle.device.specs.Device.{sizes_good, fresh, well_formed}
@@ -19,7 +11,6 @@ use Rattle.register_write.specs.Registers.{written}
 use Rattle.register_write.proofs.Kept.{written_well_formed}
 use Rattle.device_run.specs.Run.{run_of}
 use Rattle.adapter.specs.Fence.{fence_of, fence_passed}
-use Rattle.device_words.specs.declared.Held.TheVariants.{Device as Holds, Nothing}
 use Rattle.device_words.specs.Words.{words_of, device_from, same, spelled_in, held_in, HeldBy}
 use Rattle.device_words.proofs.RoundTrip.{device_back, read_back_lem, held_words}
 use Rattle.svga.specs.Calls.{svga_make, write_held, svga_write, read_held, svga_read, run_held, svga_run, picture_held, svga_picture}
@@ -35,8 +26,8 @@ use Rattle.svga_history.proofs.Fitting.{answer_unpacked, value_unpacked, words_f
 -- ---- the words of a host
 
 -- other words than 64; 64 that hold no device; the words of one
-pub by_words : {P : Type 0} (w : List ℕ) → (eqb (length w) 64 ≡ false → P) → (eqb (length w) 64 ≡ true → held_in w ≡ Nothing → P)
-    → (held_in w ≡ Holds (device_from w) → P) → P
+pub by_words : {P : Type 0} (w : List ℕ) → (eqb (length w) 64 ≡ false → P) → (eqb (length w) 64 ≡ true → held_in w ≡ None → P)
+    → (held_in w ≡ Some (device_from w) → P) → P
 unfolding held_in spelled_in
 by_words w other none holds =
     cases (eqb (length w) 64)
@@ -53,7 +44,7 @@ pub whole : (h : Host) → HoldsDevice h → eqb (length h.device) 64 ≡ true
 whole h there = eq-eqb _ _ (held_by h there).count
 
 -- a well-formed device's words hold it
-pub words_hold : (d : Device) → well_formed d ≡ true → held_in (words_of d) ≡ Holds (device_from (words_of d))
+pub words_hold : (d : Device) → well_formed d ≡ true → held_in (words_of d) ≡ Some (device_from (words_of d))
 words_hold d m = rw (device_back d) (read_back_lem d m)
 
 -- ---- a call that is lent what it asks is the device's own
@@ -188,7 +179,7 @@ still_held (lend l output) h there = there
 
 -- words that svga_make wrote with answer 0 hold the fresh device
 pub made_holds : (memory pixels : ℕ) (h : Host) → (perform_words (make memory pixels) h).answer ≡ 0
-    → held_in (perform_words (make memory pixels) h).host.device ≡ Holds (fresh memory pixels)
+    → held_in (perform_words (make memory pixels) h).host.device ≡ Some (fresh memory pixels)
 unfolding perform_words svga_make made_of
 made_holds memory pixels h e =
     cases (eqb (length h.device) 64)

@@ -1,20 +1,10 @@
 -- 32-bit words: packed results come apart again, and the device in 32-bit words has parts of 32 bits, which it reads and is written back as.
 -- Assumes nothing.
-use mathlib.Core.Path.{◌≡◌}
-use mathlib.Core.Bool.{Bool, true, false}
-use mathlib.Core.List.{List, [], ◌∷◌, ◌++◌}
-use Prim.Native.Nat.{ℕ, zero, suc, ◌+◌, ◌≤◌, ◌<◌}
-use native.Mathlib.Omega.{arith}
-use lib.Dec.{eqb, leb, ltb}
-use lib.ListN.{replicate, set, drop, get_or}
-use lib.Seq.{get_or-drop}
-use borrow.Author.Tests.{leb-true, ltb-true}
+use Rattle.std.proofs.Common.{Option, None, Some, ◌≡◌, Bool, true, false, List, [], ◌∷◌, ◌++◌, ℕ, zero, suc, ◌+◌, ◌≤◌, ◌<◌, arith, eqb, leb, ltb, replicate, set, drop, get_or, get_or-drop, leb-true, ltb-true}
 use borrow.Table.Steps.{cases}
 use Rattle.geometry.specs.Pixels.{tabulate}
 use Rattle.geometry.proofs.Tests.{both}
 use Rattle.cursor.specs.declared.Shape.{Shape}
-use Rattle.cursor.specs.declared.Defined.{Defined}
-use Rattle.cursor.specs.declared.Defined.TheVariants.{Undefined, Cursor}
 use Rattle.cursor.specs.Plane.{shape_good}
 use Rattle.execution.specs.declared.Cause.TheVariants.{NotOffered, BadOperand, TooLong, BadNext}
 use Rattle.ring.proofs.Laws.{placed_when}
@@ -98,9 +88,9 @@ pub record Fits (g : Registers) (p : Plane) : Type 0 where
   pub plane_x : p.x < 4294967296
   pub plane_y : p.y < 4294967296
 
-abbrev pub DefinedFits : Defined → Type 0
-DefinedFits Undefined = Unit {0}
-DefinedFits (Cursor s) = s.id < 4294967296
+abbrev pub DefinedFits : Option Shape → Type 0
+DefinedFits None = Unit {0}
+DefinedFits (Some s) = s.id < 4294967296
 
 pub record MarksFit (m : Marks) : Type 0 where
   pub fence : m.fence < 4294967296
@@ -194,11 +184,11 @@ module _ (rest : List ℕ) (a : AreWords rest) where
       let y : s.hoty < s.h = ltb-true _ _ u.1 in
       one_more_lem (omega arith) (one_more_lem h (one_more_lem (omega arith) (one_more_lem (omega arith) (one_more_lem (omega arith) (one_more_lem (omega arith) a)))))
 
-  defined_words_lem : (c : Defined) → defined_good c ≡ true → DefinedFits c → AreWords (defined_words (defined_parts c) rest)
+  defined_words_lem : (c : Option Shape) → defined_good c ≡ true → DefinedFits c → AreWords (defined_words (defined_parts c) rest)
   unfolding defined_parts defined_good
-  defined_words_lem Undefined g h =
+  defined_words_lem None g h =
       one_more_lem (omega arith) (one_more_lem (omega arith) (one_more_lem (omega arith) (one_more_lem (omega arith) (one_more_lem (omega arith) (one_more_lem (omega arith) a)))))
-  defined_words_lem (Cursor s) g h = shape_words s g h
+  defined_words_lem (Some s) g h = shape_words s g h
 
   four_words : (tag x y z : ℕ) → tag < 4294967296 → x < 4294967296 → y < 4294967296 → z < 4294967296 → AreWords (tag ∷ x ∷ y ∷ z ∷ rest)
   four_words tag x y z e f g h = one_more_lem e (one_more_lem f (one_more_lem g (one_more_lem h a)))

@@ -1,19 +1,12 @@
 -- What demand 1 for hosts rules out, by outcomes that are none; and a host that meets all conditions of demand 3.
 -- Assumes nothing.
-use mathlib.Core.Path.{◌≡◌, refl, sym, ◌∙◌, ap}
-use mathlib.Core.Bool.{true, true≢false}
-use mathlib.Core.List.{List, [], ◌∷◌}
-use mathlib.Core.Logic.{⊎_elim}
-use Prim.Native.Nat.{ℕ, ◌≤◌, ◌<◌}
-use native.Mathlib.Omega.{arith}
-use lib.ListN.{length, get_or, replicate}
+use Rattle.std.proofs.Common.{None, Some, ◌≡◌, refl, sym, ◌∙◌, ap, true, true≢false, List, [], ◌∷◌, ⊎_elim, ℕ, ◌≤◌, ◌<◌, arith, length, get_or, replicate}
 use Rattle.ring.specs.declared.Ring.{Ring}
 use Rattle.ring.specs.Acceptance.{offset_usable, bounds_usable, usable}
 use Rattle.writer.specs.Writing.{Command}
 use Rattle.device.specs.declared.Condition.TheVariants.{Running}
 use Rattle.device.specs.Device.{sizes_good, well_formed}
 use Rattle.device_run.specs.Run.{Lent, lent}
-use Rattle.device_words.specs.declared.Held.TheVariants.{Device as Holds, Nothing}
 use Rattle.device_words.specs.Words.{defined_parts, condition_parts, words_of, defined_from, condition_from, device_from, spelled_in, held_in}
 use Rattle.history.specs.Calls.{write, read, run, fence, append, submit}
 use Rattle.history.specs.Demand.{is_start}
@@ -27,12 +20,12 @@ use Rattle.svga_history.proofs.DemandWords.{start_reached_words}
 -- ---- words that hold no device
 
 -- 64 zeros
-zeros_hold_none : held_in (replicate 64 0) ≡ Nothing
+zeros_hold_none : held_in (replicate 64 0) ≡ None
 unfolding held_in spelled_in words_of device_from defined_parts condition_parts defined_from condition_from well_formed sizes_good
 zeros_hold_none = refl
 
 pub zeros_hold_no_device : (l : Lent) (output edges : List ℕ) → HoldsDevice (host (replicate 64 0) l output edges) → ⊥
-zeros_hold_no_device l output edges there = true≢false (let p : Nothing ≡ Holds (device_from (replicate 64 0)) = sym zeros_hold_none ∙ there in cc)
+zeros_hold_no_device l output edges there = true≢false (let p : None ≡ Some (device_from (replicate 64 0)) = sym zeros_hold_none ∙ there in cc)
 
 -- any 63
 pub too_few : (h : Host) → length h.device ≡ 63 → HoldsDevice h → ⊥

@@ -1,10 +1,9 @@
 -- Every call of the library for C and Rust, on lent words, as one history.
-use Rattle.std.specs.Prelude.{ℕ, ◌/◌, ◌%◌, ◌<◌, ◌≡◌, cond, List, [], ◌∷◌, map, eqb, get_or}
+use Rattle.std.specs.Prelude.{ℕ, ◌/◌, ◌%◌, ◌<◌, ◌≡◌, cond, List, [], ◌∷◌, map, eqb, get_or, Some}
 use Rattle.ring.specs.Append.{append_of}
 use Rattle.writer.specs.Writing.{write_of}
 use Rattle.writer.specs.Reading.{InBytes}
 use Rattle.device_run.specs.Run.{Lent, with_ring}
-use Rattle.device_words.specs.declared.Held.TheVariants.{Device as Holds}
 use Rattle.device_words.specs.Words.{device_from, held_in}
 use Rattle.svga.specs.Calls.{svga_make, svga_write, svga_read, svga_run, svga_picture, svga_offscreen, svga_fence, svga_passed}
 use Rattle.history.specs.Calls.{World, Call, make, write, read, run, append, submit, picture, offscreen, fence, passed, lend, CallOutcome, History}
@@ -36,7 +35,7 @@ world_in h = record { device = device_from h.device; lent = h.lent; output = h.o
 
 -- The words hold that device.
 abbrev pub HoldsDevice : Host → Type 0
-HoldsDevice h = held_in h.device ≡ Holds (device_from h.device)
+HoldsDevice h = held_in h.device ≡ Some (device_from h.device)
 
 -- ---- the calls
 

@@ -1,6 +1,7 @@
 -- Laws of words appended one after the other where a ring has room for all of them, and of a write: it appends all words of its command, or is refused
 -- and leaves the ring memory as it was.
 -- Assumes nothing.
+use Rattle.std.specs.Prelude.{Err, Ok, Result}
 use mathlib.Core.Path.{◌≡◌, refl, sym, ap, ◌∙◌}
 use mathlib.Core.Bool.{true, false}
 use mathlib.Core.List.{List, [], ◌∷◌, ◌++◌, append-nil, append_assoc}
@@ -17,8 +18,8 @@ use Rattle.ring.specs.Append.{can_append, append_to}
 use Rattle.ring.proofs.Laws.{usable_when, when_usable}
 use Rattle.ring.proofs.WaitingLaws.{ahead_zero, ahead_after}
 use Rattle.ring.proofs.AppendLaws.{length-append_to, append_elsewhere, append_keeps, append_waits, next_append, moved}
-use Rattle.writer.specs.declared.WriterAnswer.{WriterAnswer}
-use Rattle.writer.specs.declared.WriterAnswer.TheVariants.{Taken, LentLength, RingRefused, NoRoom, NotACommand}
+use Rattle.writer.specs.declared.WriterError.{WriterError}
+use Rattle.writer.specs.declared.WriterError.TheVariants.{LentLength, RingRefused, NoRoom, NotACommand}
 use Rattle.writer.specs.Writing.{Command, command_words, carried_in, free_words, is_command, lent_good, append_all, Written, writer_number, written, write_of}
 use Rattle.writer.proofs.RoomLaws.{free_waiting, room, free_append}
 
@@ -110,11 +111,11 @@ pub record Fits (ring : List ℕ) (c : Command) : Type 0 where
 
 -- its tests, in their order: what holds at each of its ends holds of every write
 pub by_tests : (ring : List ℕ) (c : Command) (P : Written → Type 0)
-    → (usable ring ≡ false → P (written RingRefused ring))
-    → (Usable ring → is_command (carried_in ring) c.head ≡ false → P (written NotACommand ring))
-    → (Usable ring → is_command (carried_in ring) c.head ≡ true → lent_good c ≡ false → P (written LentLength ring))
-    → (Usable ring → is_command (carried_in ring) c.head ≡ true → lent_good c ≡ true → free_words ring < length (command_words c) → P (written NoRoom ring))
-    → (Fits ring c → P (written Taken (append_all ring (command_words c))))
+    → (usable ring ≡ false → P (written (Err RingRefused) ring))
+    → (Usable ring → is_command (carried_in ring) c.head ≡ false → P (written (Err NotACommand) ring))
+    → (Usable ring → is_command (carried_in ring) c.head ≡ true → lent_good c ≡ false → P (written (Err LentLength) ring))
+    → (Usable ring → is_command (carried_in ring) c.head ≡ true → lent_good c ≡ true → free_words ring < length (command_words c) → P (written (Err NoRoom) ring))
+    → (Fits ring c → P (written (Ok tt) (append_all ring (command_words c))))
     → P (write_of ring c)
 unfolding write_of
 by_tests ring c P on-33 on-41 on-20 on-40 taken =
@@ -135,21 +136,21 @@ by_tests ring c P on-33 on-41 on-20 on-40 taken =
 -- what holds of a write that is refused, whatever it answers, and of one that appends all words of its command where none of the refusals applies, holds of
 -- every write
 pub by_write : (ring : List ℕ) (c : Command) (P : Written → Type 0)
-    → ((a : WriterAnswer) → 20 ≤ writer_number a → P (written a ring))
-    → (Fits ring c → P (written Taken (append_all ring (command_words c))))
+    → ((a : Result (Unit {0}) WriterError) → 20 ≤ writer_number a → P (written a ring))
+    → (Fits ring c → P (written (Ok tt) (append_all ring (command_words c))))
     → P (write_of ring c)
 by_write ring c P refused taken =
     by_tests ring c P
-    (λ u. refused RingRefused (omega arith))
-    (λ u h. refused NotACommand (omega arith))
-    (λ u h l. refused LentLength (omega arith))
-    (λ u h l f. refused NoRoom (omega arith))
+    (λ u. refused (Err RingRefused) (omega arith))
+    (λ u h. refused (Err NotACommand) (omega arith))
+    (λ u h l. refused (Err LentLength) (omega arith))
+    (λ u h l f. refused (Err NoRoom) (omega arith))
     taken
 
 -- its answer is one of the writer's: 0, 20, 33, 40 or 41
-pub write_answers : (ring : List ℕ) (c : Command) → (a : WriterAnswer) × ((write_of ring c).answer ≡ writer_number a)
+pub write_answers : (ring : List ℕ) (c : Command) → (a : Result (Unit {0}) WriterError) × ((write_of ring c).answer ≡ writer_number a)
 write_answers ring c =
-    by_write ring c (λ (o : Written). (a : WriterAnswer) × (o.answer ≡ writer_number a)) (λ a high. (a, refl)) (λ f. (Taken, refl))
+    by_write ring c (λ (o : Written). (a : Result (Unit {0}) WriterError) × (o.answer ≡ writer_number a)) (λ a high. (a, refl)) (λ f. ((Ok tt), refl))
 
 -- "nothing written" where it is refused
 pub write_refused : (ring : List ℕ) (c : Command) → ((write_of ring c).answer ≡ 0 → ⊥) → (write_of ring c).ring ≡ ring
@@ -157,7 +158,7 @@ write_refused ring c =
     by_write ring c (λ (o : Written). (o.answer ≡ 0 → ⊥) → o.ring ≡ ring) (λ a high n. refl) (λ f n. absurd (n refl))
 
 -- where none of the refusals applies it is taken
-pub fits_taken : (ring : List ℕ) (c : Command) → Fits ring c → write_of ring c ≡ written Taken (append_all ring (command_words c))
+pub fits_taken : (ring : List ℕ) (c : Command) → Fits ring c → write_of ring c ≡ written (Ok tt) (append_all ring (command_words c))
 unfolding write_of
 fits_taken ring c f = rw (when_usable ring f.usable, f.is_a_command, f.lent, le-leb _ _ f.room)
 

@@ -5,8 +5,8 @@ use mathlib.Core.Bool.{true}
 use mathlib.Core.List.{List, [], ◌∷◌, ◌++◌, append-nil}
 use Prim.Native.Nat.{ℕ, suc, ◌+◌, ◌-◌, ◌*◌, ◌/◌, ◌≤◌, ◌<◌}
 use native.Mathlib.Omega.{arith}
-use lib.ListN.{length, get_or, set, take, drop, length-set, length-append, length-drop, take-append-drop}
-use lib.Seq.{sets, sets-eq, paste, take_all, take-length, take-take, take-suc, length-take-le, get_or-set_other, set-get_or, set-set, set_comm}
+use lib.ListN.{length, get_or, set, take, drop, length-set, length-append}
+use lib.Seq.{sets, sets-eq, paste, take_all, take-length, take-suc, length-take-le, get_or-set_other, set-get_or, set-set, set_comm}
 use borrow.Author.Tests.{lt-ltb, le-ltb}
 use Rattle.geometry.proofs.Tabulate.{length-tabulate, get_or-tabulate}
 use Rattle.ring.specs.Acceptance.{min_of, max_of, next_of, stop_of, Usable}
@@ -92,28 +92,17 @@ module _ (lo hi : ℕ) where
       ∙ sets-eq w ring p (omega arith)
       ∙ ap (λ (u : List ℕ). take p ring ++ u ++ drop (p + length w) ring) (sym (take-length w))
 
-  -- the first n of a row of words
-  pub laid_first : (p : ℕ) (w ring : List ℕ) (n : ℕ) → n ≤ length w → p + n ≤ hi → hi ≤ length ring → laid lo hi p (take n w) ring ≡ paste ring p w n
-  laid_first p w ring n k l f =
-      let e : length (take n w) ≡ n = length-take-le n w k in
-      laid_row p (take n w) ring (omega arith) f
-      ∙ ap (λ m. paste ring p (take n w) m) e
-      ∙ ap (λ (u : List ℕ). take p ring ++ u ++ drop (p + n) ring) (take-take n n w (omega arith))
-
   -- the words up to the ring's end, and the others from its begin on
-  pub laid_wrapped : (p : ℕ) (w ring : List ℕ) (n f : ℕ) → length w ≡ n → InRing lo hi p n → hi ≤ length ring → f ≡ hi - p → f ≤ n
-      → paste (paste ring p w f) lo (drop f w) (n - f) ≡ laid lo hi p w ring
+  pub laid_wrapped : (p : ℕ) (u v ring : List ℕ) → InRing lo hi p (length (u ++ v)) → hi ≤ length ring → length u ≡ hi - p
+      → paste (paste ring p u (length u)) lo v (length v) ≡ laid lo hi p (u ++ v) ring
   unfolding ahead
-  laid_wrapped p w ring n f all h there is some =
-      let size : length (drop f w) ≡ n - f = length-drop f w ∙ ap (λ k. k - f) all in
-      let few : length (take f w) ≡ f = length-take-le f w (omega arith) in
-      let begin : ahead lo hi p f ≡ lo = rw (le-ltb (p + f) hi (omega arith)) (omega arith) in
-      let head : laid lo hi p (take f w) ring ≡ paste ring p w f = laid_first p w ring f (omega arith) (omega arith) there in
-      sym (ap (λ u. laid lo hi p u ring) (sym (take-append-drop f w))
-      ∙ laid_append p (take f w) (drop f w) ring (record { from = h.from; below = h.below; held = omega arith })
-      ∙ ap (λ q. laid lo hi q (drop f w) (laid lo hi p (take f w) ring)) (ap (ahead lo hi p) few ∙ begin)
-      ∙ laid_row lo (drop f w) (laid lo hi p (take f w) ring) (omega arith) (rw length-laid there)
-      ∙ ap₂ (λ r m. paste r lo (drop f w) m) head size)
+  laid_wrapped p u v ring h there some =
+      let n = length-append u v in
+      let begin : ahead lo hi p (length u) ≡ lo = rw (le-ltb (p + length u) hi (omega arith)) (omega arith) in
+      sym (laid_append p u v ring (record { from = h.from; below = h.below; held = omega arith })
+      ∙ ap (λ q. laid lo hi q v (laid lo hi p u ring)) begin
+      ∙ laid_row lo v (laid lo hi p u ring) (omega arith) (rw length-laid there)
+      ∙ ap (λ r. paste r lo v (length v)) (laid_row p u ring (omega arith) there))
 
 -- ---- data
 

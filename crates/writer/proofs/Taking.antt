@@ -1,21 +1,18 @@
 -- Which heads a write takes: those of commands that the device executes once all their words are there.
 -- Assumes nothing.
+use Rattle.std.specs.Prelude.{None}
 use mathlib.Core.Path.{◌≡◌, sym, ap, ap₂, ◌∙◌}
 use mathlib.Core.Bool.{true, false, true≢false}
 use mathlib.Core.List.{List, [], ◌++◌}
 use mathlib.Core.Logic.{◌↔◌, ◌⊎◌, inl, inr, ⊎_elim}
-use Prim.Native.Nat.{ℕ, ◌+◌, ◌*◌, ◌≤◌, ◌<◌}
+use Prim.Native.Nat.{ℕ, ◌+◌, ◌≤◌, ◌<◌}
 use native.Mathlib.Omega.{arith}
-use native.Mathlib.Nat.{mul-le-mul}
 use lib.Dec.{eqb, leb}
 use lib.ListN.{length, get_or, take, replicate, length-append, length-replicate}
 use lib.Seq.{get_or-take, take-append_seam}
 use borrow.Author.Tests.{eqb-true, eqb-false, leb-true, leb-false, eq-eqb, le-leb}
 use borrow.Table.Steps.{cases}
 use Rattle.geometry.proofs.Tests.{both, not_both}
-use Rattle.cursor.specs.declared.Defined.TheVariants.{Undefined}
-use Rattle.cursor.specs.declared.Shape.{Shape}
-use Rattle.cursor.specs.Plane.{image_words, shape_good}
 use Rattle.execution.specs.declared.Cause.TheVariants.{BadOperand, TooLong}
 use Rattle.execution.specs.declared.End.TheVariants.{Fault}
 use Rattle.execution.specs.Straight.{ends, exec}
@@ -24,13 +21,12 @@ use Rattle.command.specs.declared.Action.{Action}
 use Rattle.command.specs.declared.Kind.{Kind}
 use Rattle.command.specs.declared.Kind.TheVariants.{Update, RectFill, RectCopy, RectRopFill, RectRopCopy}
 use Rattle.command.specs.declared.Kind.TheVariants.{DefineAlphaCursor, UpdateVerbose, Fence, Escape, Foreign}
-use Rattle.command.specs.Commands.{Known, entry, size_by, shape_at, kind_of, kind_in, commands}
-use Rattle.command.specs.Findings.{data_of}
+use Rattle.command.specs.Commands.{Known, entry, size_by, kind_of, kind_in, commands}
 use Rattle.command.proofs.Laws.{Begin, Alike, alike, head_some}
 use Rattle.command.proofs.Rules.{bad_head, long, bad, well, by_rule}
 use Rattle.effect.specs.Effects.{scene, done}
 use Rattle.run.specs.Run.{machine, known_of}
-use Rattle.writer.specs.Writing.{pixels_asked, is_command}
+use Rattle.writer.specs.Writing.{is_command}
 use Rattle.writer.specs.Reading.{Whole, WouldFault, NotTaken}
 
 -- ---- the checks of a head
@@ -80,30 +76,6 @@ head_few cap head e =
     let h = head_offered (kind_in head) p.offered in
     let n = p.number in
     (omega arith, omega arith)
-
--- and its pixels fill at most a cursor image
-shape_pixels : (s : Shape) → shape_good s ≡ true → s.w * s.h ≤ image_words
-unfolding shape_good
-shape_pixels s good =
-    let width = both (leb s.w 64) _ (both (leb 1 s.w) _ good).1 in
-    let height = both (leb s.h 64) _ (both (leb 1 s.h) _ width.1).1 in
-    mul-le-mul {n₂ = 64} {m₂ = 64} (leb-true s.w 64 width.0) (leb-true s.h 64 height.0)
-
-shape_few : (k : Kind) (head : List ℕ) → (entry k).head_good head ≡ true → pixels_asked (data_of k) head ≤ image_words
-unfolding entry
-shape_few Update head good = omega arith
-shape_few RectFill head good = omega arith
-shape_few RectCopy head good = omega arith
-shape_few RectRopFill head good = omega arith
-shape_few RectRopCopy head good = omega arith
-shape_few DefineAlphaCursor head good = shape_pixels (shape_at head 1) good
-shape_few UpdateVerbose head good = omega arith
-shape_few Fence head good = omega arith
-shape_few Escape head good = omega arith
-shape_few Foreign head good = omega arith
-
-pub pixels_few : (cap : ℕ) (head : List ℕ) → is_command cap head ≡ true → pixels_asked (data_of (kind_in head)) head ≤ image_words
-pixels_few cap head e = shape_few (kind_in head) head (passes cap head e).head_good
 
 -- ---- a turn on words that begin with a head
 
@@ -181,7 +153,7 @@ no_fault cap head e faults =
     let number = (passes cap head e).number in
     let w = whole_zeros head number in
     let s = scene (record { width = 0; height = 0; rows = 0 }) [] false in
-    let m = machine (record { fence = 0; defined = Undefined }) [] [] 0 in
+    let m = machine (record { fence = 0; defined = None }) [] [] 0 in
     let t = taken_turn known_of (done s) cap m head _ (whole_begins cap head _ number w) e in
     ⊎_elim (λ q. let z = sym t ∙ q in true≢false cc) (λ q. let z = sym t ∙ q in true≢false cc) (faults s m _ w)
 

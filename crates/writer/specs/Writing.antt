@@ -1,5 +1,5 @@
 -- The guest's writer: document 02, P2. "From a command with its arguments and pixels, append all its words by the published rule or none".
-use Rattle.std.specs.Prelude.{ℕ, ◌+◌, ◌-◌, ◌*◌, ◌/◌, Bool, cond, ◌&&◌, List, [], ◌∷◌, ◌++◌, eqb, leb, length, get_or}
+use Rattle.std.specs.Prelude.{ℕ, ◌+◌, ◌-◌, ◌*◌, ◌/◌, Bool, cond, ◌&&◌, List, [], ◌∷◌, ◌++◌, eqb, leb, length, get_or, Err, Ok, Result}
 use Rattle.std.proofs.Math.Option.{Option, none, some}
 use Rattle.geometry.specs.Pixels.{tabulate}
 use Rattle.command.specs.declared.Data.{Data}
@@ -9,8 +9,8 @@ use Rattle.command.specs.Findings.{data_of}
 use Rattle.ring.specs.Acceptance.{min_of, max_of, next_of, stop_of, usable}
 use Rattle.ring.specs.Append.{append_to}
 use Rattle.ring.specs.Waiting.{between, carried}
-use Rattle.writer.specs.declared.WriterAnswer.{WriterAnswer}
-use Rattle.writer.specs.declared.WriterAnswer.TheVariants.{Taken, LentLength, RingRefused, NoRoom, NotACommand}
+use Rattle.writer.specs.declared.WriterError.{WriterError}
+use Rattle.writer.specs.declared.WriterError.TheVariants.{LentLength, RingRefused, NoRoom, NotACommand}
 
 -- "a command with its arguments and pixels": its number and arguments in document 01's order, its pixels, and its data, which are bytes.
 pub record Command : Type 0 where
@@ -81,26 +81,26 @@ pub record Written : Type 0 where
   pub answer : ℕ
   pub ring : List ℕ
 
-abbrev pub writer_number : WriterAnswer → ℕ
-writer_number Taken = 0
-writer_number LentLength = 20
-writer_number RingRefused = 33
-writer_number NoRoom = 40
-writer_number NotACommand = 41
+abbrev pub writer_number : Result (Unit {0}) WriterError → ℕ
+writer_number (Ok _) = 0
+writer_number (Err LentLength) = 20
+writer_number (Err RingRefused) = 33
+writer_number (Err NoRoom) = 40
+writer_number (Err NotACommand) = 41
 
-abbrev pub written : WriterAnswer → List ℕ → Written
+abbrev pub written : Result (Unit {0}) WriterError → List ℕ → Written
 written a ring = record { answer = writer_number a; ring = ring }
 
 -- where the test fails it is refused so, "nothing written"; else what follows
-abbrev pub unless : Bool → WriterAnswer → List ℕ → Written → Written
+abbrev pub unless : Bool → Result (Unit {0}) WriterError → List ℕ → Written → Written
 unless test a ring follows = cond test follows (written a ring)
 
 -- "33 if the ring words are missing or unusable by document 01's rule, M being four times the lent words; 41 ..; 20 ..; 40 exactly if the command could
 -- fit the ring but there are too few free words now; in that order, nothing written."
 unfoldable pub write_of : List ℕ → Command → Written
 write_of ring c =
-    unless (usable ring) RingRefused ring
-    (unless (is_command (carried_in ring) c.head) NotACommand ring
-    (unless (lent_good c) LentLength ring
-    (unless (leb (length (command_words c)) (free_words ring)) NoRoom ring
-    (written Taken (append_all ring (command_words c))))))
+    unless (usable ring) (Err RingRefused) ring
+    (unless (is_command (carried_in ring) c.head) (Err NotACommand) ring
+    (unless (lent_good c) (Err LentLength) ring
+    (unless (leb (length (command_words c)) (free_words ring)) (Err NoRoom) ring
+    (written (Ok tt) (append_all ring (command_words c))))))

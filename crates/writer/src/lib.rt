@@ -1,7 +1,7 @@
 // The guest's side of the ring: a command with its arguments, pixels and bytes, appended whole by the published rule, or not at all.
 #![tactic(auto)]
 
-ghost use Rattle.std.specs.Prelude.{◌≡◌, true, cond, not, ◌&&◌, ◌++◌, eqb, leb, ℕ, ◌+◌, ◌*◌, ◌/◌, ◌≤◌, ◌<◌, length, get_or, set, drop};
+ghost use Rattle.std.specs.Prelude.{◌≡◌, true, cond, not, ◌&&◌, ◌++◌, eqb, leb, ℕ, ◌+◌, ◌*◌, ◌/◌, ◌≤◌, ◌<◌, length, get_or, set, drop, Err};
 ghost use Rattle.std.proofs.Math.Seq.{paste};
 ghost use Rattle.command.specs.declared.Kind.TheVariants.{DefineAlphaCursor, Escape};
 ghost use Rattle.command.specs.Commands.{entry, kind_in};
@@ -10,224 +10,137 @@ ghost use Rattle.cursor.specs.Plane.{image_words};
 ghost use Rattle.ring.specs.Acceptance.{min_of, max_of, next_of, usable};
 ghost use Rattle.ring.specs.Waiting.{after, ahead, words};
 ghost use Rattle.writer.specs.Writing.{command, command_words, word_from, data_words, free_words, writer_number, written, write_of};
-ghost use Rattle.writer.specs.Laying.{laid, asked};
+ghost use Rattle.writer.specs.Laying.{InPlace, behind, laid, asked};
 
-use command::{Data, Finding, Kind};
+use command::{Data, Kind, Step};
 
-#[derive(Clone, Copy)]
-pub enum WriterAnswer {
-    Taken,
+// Why a command is not written.
+#[derive(Clone, Copy, PartialEq, Eq)]
+pub enum WriterError {
     LentLength,
     RingRefused,
     NoRoom,
     NotACommand,
 }
 
-// Rules out: 0 for a full ring; 33 and 41 exchanged.
-pub fn writer_number(answer: WriterAnswer) -> u32
-    ensures { result ≡ writer_number answer }
-{
-    match answer {
-        WriterAnswer::Taken => 0,
-        WriterAnswer::LentLength => 20,
-        WriterAnswer::RingRefused => 33,
-        WriterAnswer::NoRoom => 40,
-        WriterAnswer::NotACommand => 41,
+impl From<WriterError> for u32 {
+    ghost from_gives = { λ error number. number ≡ writer_number (Err error) };
+
+    // Rules out: 0 for a full ring; 33 and 41 exchanged.
+    fn from(error: WriterError) -> u32 {
+        match error {
+            WriterError::LentLength => 20,
+            WriterError::RingRefused => 33,
+            WriterError::NoRoom => 40,
+            WriterError::NotACommand => 41,
+        }
     }
 }
 
 // ---- what a head asks for
 
-// All words of its command, its pixels and its bytes. No words where the device takes no such command.
-#[derive(Clone, Copy)]
+// All words of its command, its pixels and its bytes.
+#[derive(Clone, Copy, PartialEq, Eq)]
 struct Asked {
     words: u64,
     pixels: u64,
     bytes: u64,
 }
 
-// No command's.
-fn nothing() -> Asked
-    ensures { (result.words ≡ 0) × (result.pixels ≡ 0) × (result.bytes ≡ 0) }
+// The words of the head of a command with such data.
+fn head_words(tail: Data) -> usize
+    ensures { result ≡ (entry (kind_with tail)).head }
 {
-    Asked {
-        words: 0,
-        pixels: 0,
-        bytes: 0,
+    match tail {
+        Data::Cursor => Kind::DefineAlphaCursor.head_words(),
+        Data::Escape => Kind::Escape.head_words(),
     }
 }
 
-// A command that is all head, of so many words and no other number.
-fn all_head(head: &[u32], words: usize) -> Asked
-    ensures { result ≡ cond (eqb (length head.now) words)
-        (record { words = words; pixels = 0; bytes = 0 }) (record { words = 0; pixels = 0; bytes = 0 }) }
-{
-    if head.len() != words {
-        return nothing();
-    }
-    Asked {
-        words: words as u64,
-        pixels: 0,
-        bytes: 0,
-    }
-}
-
-// One whose word last is its last, and a raster operation.
-fn operated(head: &[u32], last: usize) -> Asked
-    requires { last ≤ 7 }
-    ensures { result ≡ cond (eqb (length head.now) (last + 1) && leb (get_or head.now last 0) 15)
-        (record { words = last + 1; pixels = 0; bytes = 0 }) (record { words = 0; pixels = 0; bytes = 0 }) }
-{
-    if head.len() != last + 1 {
-        return nothing();
-    }
-    if 15 < head[last] {
-        return nothing();
-    }
-    Asked {
-        words: (last + 1) as u64,
-        pixels: 0,
-        bytes: 0,
-    }
-}
-
-// A fence, of another number than 0.
-fn fence_asked(head: &[u32]) -> Asked
-    ensures { result ≡ cond (eqb (length head.now) 2 && not (eqb (get_or head.now 1 0) 0))
-        (record { words = 2; pixels = 0; bytes = 0 }) (record { words = 0; pixels = 0; bytes = 0 }) }
-{
-    if head.len() != 2 {
-        return nothing();
-    }
-    if head[1] == 0 {
-        return nothing();
-    }
-    Asked {
-        words: 2,
-        pixels: 0,
-        bytes: 0,
-    }
-}
-
-// All words of a command with data behind its head, or 0 where the device faults: by its own turn, in a ring full of words.
-fn long_words(tail: Data, head: &[u32], carries: u64) -> u64
-    requires { (10 ≤ carries) × (kind_in head.now ≡ kind_with tail) × (length head.now ≡ (entry (kind_with tail)).head) }
-    ensures { result ≡ (asked carries head.now).words }
-{
-    let finding = command::data_turn(tail, head, carries, carries);
-    match finding {
-        Finding::Ends(_) => 0,
-        Finding::Executes(_, words) => words,
-    }
-}
-
-fn cursor_asked(head: &[u32], carries: u64) -> Asked
-    requires { (10 ≤ carries) × (kind_in head.now ≡ DefineAlphaCursor) }
+// A command with data behind its head, by the device's own turn in a ring full of words: none where that would fault, or with another number of words.
+fn long_asked(tail: Data, head: &[u32], carries: u64) -> Option<Asked>
+    requires { (10 ≤ carries) × (kind_in head.now ≡ kind_with tail) }
     ensures { result ≡ asked carries head.now }
 {
-    if head.len() != 6 {
-        return nothing();
+    if head.len() != head_words(tail) {
+        return None;
     }
-    let words = long_words(Data::Cursor, head, carries);
-    if words == 0 {
-        return nothing();
-    }
-    Asked {
-        words,
-        pixels: words - 6,
-        bytes: 0,
-    }
-}
-
-fn escape_asked(head: &[u32], carries: u64) -> Asked
-    requires { (10 ≤ carries) × (kind_in head.now ≡ Escape) }
-    ensures { result ≡ asked carries head.now }
-{
-    if head.len() != 3 {
-        return nothing();
-    }
-    let words = long_words(Data::Escape, head, carries);
-    if words == 0 {
-        return nothing();
-    }
-    Asked {
-        words,
-        pixels: 0,
-        bytes: head[2] as u64,
+    let Ok((_, words)) = command::data_turn(tail, head, carries, carries) else {
+        return None;
+    };
+    match tail {
+        Data::Cursor => Some(Asked {
+            words,
+            pixels: words - 6,
+            bytes: 0,
+        }),
+        Data::Escape => Some(Asked {
+            words,
+            pixels: 0,
+            bytes: head[2] as u64,
+        }),
     }
 }
 
-fn asked_by(head: &[u32], carries: u64) -> Asked
+// By the device's own step: none where that would fault, or the head has another number of words than its command.
+fn asked_by(head: &[u32], carries: u64) -> Option<Asked>
     requires { 10 ≤ carries }
     ensures { result ≡ asked carries head.now }
 {
-    if head.len() == 0 {
-        return nothing();
-    }
-    let kind = command::kind_of(head[0]);
-    match kind {
-        Kind::Update => all_head(head, 5),
-        Kind::RectFill => all_head(head, 6),
-        Kind::RectCopy => all_head(head, 7),
-        Kind::RectRopFill => operated(head, 6),
-        Kind::RectRopCopy => operated(head, 7),
-        Kind::DefineAlphaCursor => cursor_asked(head, carries),
-        Kind::UpdateVerbose => all_head(head, 6),
-        Kind::Fence => fence_asked(head),
-        Kind::Escape => escape_asked(head, carries),
-        Kind::Foreign => nothing(),
+    match command::step_in(head) {
+        Step::Does(_, words) => {
+            if words != head.len() {
+                return None;
+            }
+            Some(Asked {
+                words: words as u64,
+                pixels: 0,
+                bytes: 0,
+            })
+        }
+        Step::Long(tail) => long_asked(tail, head, carries),
+        Step::Short | Step::Faults(_) => None,
     }
 }
 
 // ---- words into the ring
 
-// n words, from word from of a row on, into other words from word at on.
-fn lay_span(to: &mut [u32], at: usize, row: &[u32], from: usize, n: usize)
-    requires { (from + n ≤ length row.now) × (at + n ≤ length to.old) }
-    ensures { to.new ≡ paste to.old at (drop from row.now) n }
-{
-    let mut j = 0;
-    while j < n {
-        to[at + j] = row[from + j];
-        j += 1;
-    }
+// A place in a ring that lies from word lo to below word hi.
+// That it lies in the ring memory (`InPlace`) is a clause: a place holds no memory.
+#[derive(Clone, Copy, PartialEq, Eq)]
+struct Place {
+    lo: usize,
+    hi: usize,
+    at: usize,
 }
 
-// The same into the ring, by way of a local line: it compiles to one memmove.
-fn lay_row(ring: &mut [u32], at: usize, row: &[u32], from: usize, n: usize)
-    requires { (n ≤ image_words) × (from + n ≤ length row.now) × (at + n ≤ length ring.old) }
-    ensures { ring.new ≡ paste ring.old at (drop from row.now) n }
+// A row of words into the ring from a place on: up to its end, and from its begin on. Answers the place behind them.
+// Apart, as what stands behind a head is, for the writes of a bare head, which take a few ns.
+#[inline(never)]
+fn lay(ring: &mut [u32], place: Place, row: &[u32]) -> usize
+    requires held { InPlace place (length ring.old) }
+    requires room { length row.now + place.lo < place.hi }
+    ensures ring_after { ring.new ≡ laid place.lo place.hi place.at row.now ring.old }
+    ensures value { result ≡ behind place (length row.now) }
 {
-    let mut line = [0u32; 4096];
-    lay_span(&mut line, 0, row, from, n);
-    lay_span(ring, at, &line, 0, n);
-}
-
-// A row of words into the ring from word at on: up to its end, and from its begin on. Answers the place behind them.
-fn lay(ring: &mut [u32], lo: usize, hi: usize, at: usize, row: &[u32]) -> usize
-    requires { (lo ≤ at) × (at < hi) × (hi ≤ length ring.old) × (length row.now + lo < hi) × (length row.now ≤ image_words) }
-    ensures ring_after { ring.new ≡ laid lo hi at row.now ring.old }
-    ensures value { result ≡ ahead lo hi at (length row.now) }
-{
-    let n = row.len();
-    let first = hi - at;
-    if n < first {
-        lay_row(ring, at, row, 0, n);
-        return at + n;
+    let first = place.hi - place.at;
+    if row.len() < first {
+        let past = place.at + row.len();
+        ring[place.at..past].copy_from_slice(row);
+        return past;
     }
-    lay_row(ring, at, row, 0, first);
-    lay_row(ring, lo, row, first, n - first);
-    lo + (n - first)
+    let (front, rest) = row.split_at(first);
+    let past = place.lo + rest.len();
+    ring[place.at..place.hi].copy_from_slice(front);
+    ring[place.lo..past].copy_from_slice(rest);
+    past
 }
 
 // A byte of bytes, or 0 behind its end.
-fn byte_at(bytes: &[u8], i: usize) -> u32
-    ensures { (result ≡ get_or bytes.now i 0) × (result < 256) }
+fn byte_at(bytes: &[u8], i: usize) -> u8
+    ensures { result ≡ get_or bytes.now i 0 }
 {
-    if i < bytes.len() {
-        return bytes[i] as u32;
-    }
-    0
+    bytes.get(i).copied().unwrap_or(0)
 }
 
 // Four bytes from byte k on, lowest first.
@@ -235,41 +148,40 @@ fn word_from(bytes: &[u8], k: usize) -> u32
     requires { k ≤ 4294967296 }
     ensures { result ≡ word_from bytes.now k }
 {
-    let low = byte_at(bytes, k) + 256 * byte_at(bytes, k + 1);
-    let high = byte_at(bytes, k + 2) + 256 * byte_at(bytes, k + 3);
-    low + 65536 * high
+    u32::from_le_bytes([
+        byte_at(bytes, k),
+        byte_at(bytes, k + 1),
+        byte_at(bytes, k + 2),
+        byte_at(bytes, k + 3),
+    ])
 }
 
-// The place behind place p.
+// The place behind place p. By numbers: of a place only one moves on.
 #[tactic(auto, unfolding(ring::specs::Waiting::after))]
 fn after(lo: usize, hi: usize, p: usize) -> usize
     requires { p < hi }
     ensures { result ≡ after lo hi p }
 {
-    if p + 1 < hi {
-        return p + 1;
-    }
-    lo
+    if p + 1 < hi { p + 1 } else { lo }
 }
 
-// Data as words, into the ring from word at on. Answers the place behind them.
-fn lay_data(ring: &mut [u32], lo: usize, hi: usize, at: usize, bytes: &[u8]) -> usize
-    requires { (lo ≤ at) × (at < hi) × (hi ≤ length ring.old) × (length (data_words bytes.now) + lo < hi) × (length bytes.now ≤ 4294967295) }
-    ensures ring_after { ring.new ≡ laid lo hi at (data_words bytes.now) ring.old }
-    ensures value { result ≡ ahead lo hi at (length (data_words bytes.now)) }
+// Data as words, into the ring from a place on. Answers the place behind them. By the number of the word: the last of `chunks` may be short.
+fn lay_data(ring: &mut [u32], place: Place, bytes: &[u8]) -> usize
+    requires held { InPlace place (length ring.old) }
+    requires room { (length (data_words bytes.now) + place.lo < place.hi) × (length bytes.now ≤ 4294967295) }
+    ensures ring_after { ring.new ≡ laid place.lo place.hi place.at (data_words bytes.now) ring.old }
+    ensures value { result ≡ behind place (length (data_words bytes.now)) }
 {
-    let n = (bytes.len() + 3) / 4;
-    let mut p = at;
-    let mut j = 0;
-    while j < n {
-        ring[p] = word_from(bytes, 4 * j);
-        p = after(lo, hi, p);
-        j += 1;
+    let mut at = place.at;
+    for i in 0..bytes.len().div_ceil(4) {
+        ring[at] = word_from(bytes, 4 * i);
+        at = after(place.lo, place.hi, at);
     }
-    p
+    at
 }
 
 // Four words of a row, from word from on, into the ring from word at on.
+// All are read before one is stored, so that they move at once: copy_from_slice looks first whether they overlap, and a FENCE takes a fifth more time.
 fn lay_four(ring: &mut [u32], at: usize, row: &[u32], from: usize)
     requires { (from + 4 ≤ length row.now) × (at + 4 ≤ length ring.old) }
     ensures { ring.new ≡ paste ring.old at (drop from row.now) 4 }
@@ -284,6 +196,7 @@ fn lay_four(ring: &mut [u32], at: usize, row: &[u32], from: usize)
     ring[at + 3] = d;
 }
 
+// What a head and the bytes have is said by clauses, here and below: they are lent slices, which no type of ours holds.
 // A head that does not wrap: two or three words, or its first four and its last four, which may overlap. No loop, which would be a call of memcpy.
 fn lay_head(ring: &mut [u32], at: usize, head: &[u32])
     requires { (2 ≤ length head.now) × (length head.now ≤ 8) × (at + length head.now ≤ length ring.old) }
@@ -302,64 +215,56 @@ fn lay_head(ring: &mut [u32], at: usize, head: &[u32])
     }
 }
 
-// A head from word at on. Answers the place behind it.
-fn put_head(ring: &mut [u32], lo: usize, hi: usize, at: usize, head: &[u32]) -> usize
-    requires { (lo ≤ at) × (at < hi) × (hi ≤ length ring.old) × (length head.now + lo < hi) × (2 ≤ length head.now) × (length head.now ≤ 8) }
-    ensures ring_after { ring.new ≡ laid lo hi at head.now ring.old }
-    ensures value { result ≡ ahead lo hi at (length head.now) }
+// A head from a place on. Answers the place behind it.
+fn put_head(ring: &mut [u32], place: Place, head: &[u32]) -> usize
+    requires held { InPlace place (length ring.old) }
+    requires room { (length head.now + place.lo < place.hi) × (2 ≤ length head.now) × (length head.now ≤ 8) }
+    ensures ring_after { ring.new ≡ laid place.lo place.hi place.at head.now ring.old }
+    ensures value { result ≡ behind place (length head.now) }
 {
-    let past = at + head.len();
-    if past < hi {
-        lay_head(ring, at, head);
+    let past = place.at + head.len();
+    if past < place.hi {
+        lay_head(ring, place.at, head);
         return past;
     }
-    lay(ring, lo, hi, at, head)
+    lay(ring, place, head)
 }
 
 // What stands behind a head: pixels or data. Answers the place behind them.
-fn put_rest(
-    ring: &mut [u32],
-    lo: usize,
-    hi: usize,
-    at: usize,
-    pixels: &[u32],
-    bytes: &[u8],
-) -> usize
-    requires { (lo ≤ at) × (at < hi) × (hi ≤ length ring.old) × (length bytes.now ≤ 4294967295)
-        × (length (pixels.now ++ data_words bytes.now) + lo < hi) × (length pixels.now ≤ image_words) }
-    ensures ring_after { ring.new ≡ laid lo hi at (pixels.now ++ data_words bytes.now) ring.old }
-    ensures value { result ≡ ahead lo hi at (length (pixels.now ++ data_words bytes.now)) }
+#[inline(never)]
+fn put_rest(ring: &mut [u32], place: Place, pixels: &[u32], bytes: &[u8]) -> usize
+    requires held { InPlace place (length ring.old) }
+    requires room { (length (pixels.now ++ data_words bytes.now) + place.lo < place.hi) × (length bytes.now ≤ 4294967295) }
+    ensures ring_after { ring.new ≡ laid place.lo place.hi place.at (pixels.now ++ data_words bytes.now) ring.old }
+    ensures value { result ≡ behind place (length (pixels.now ++ data_words bytes.now)) }
 {
-    let last = lay(ring, lo, hi, at, pixels);
-    lay_data(ring, lo, hi, last, bytes)
+    let last = lay(ring, place, pixels);
+    lay_data(ring, Place { at: last, ..place }, bytes)
 }
 
 // All words of a command, and none of ring words 0 to 3. Answers the place behind them.
-fn put_words(
-    ring: &mut [u32],
-    lo: usize,
-    hi: usize,
-    at: usize,
-    head: &[u32],
-    pixels: &[u32],
-    bytes: &[u8],
-) -> usize
-    requires le_lo { (4 ≤ lo) × (lo ≤ at) × (at < hi) × (hi ≤ length ring.old) × (length bytes.now ≤ 4294967295) }
-    requires in_bounds { (2 ≤ length head.now) × (length head.now ≤ 8) × (length pixels.now ≤ image_words)
-        × (length (command_words (command head.now pixels.now bytes.now)) + lo < hi) }
+fn put_words(ring: &mut [u32], place: Place, head: &[u32], pixels: &[u32], bytes: &[u8]) -> usize
+    requires held { InPlace place (length ring.old) }
+    requires in_bounds { (4 ≤ place.lo) × (2 ≤ length head.now) × (length head.now ≤ 8) × (length bytes.now ≤ 4294967295)
+        × (length (command_words (command head.now pixels.now bytes.now)) + place.lo < place.hi) }
     ensures ring_after { ring.new
-        ≡ laid lo hi at (command_words (command head.now pixels.now bytes.now)) ring.old }
-    ensures value { result ≡ ahead lo hi at (length (command_words (command head.now pixels.now bytes.now))) }
+        ≡ laid place.lo place.hi place.at (command_words (command head.now pixels.now bytes.now)) ring.old }
+    ensures value { result ≡ behind place (length (command_words (command head.now pixels.now bytes.now))) }
     ensures by_index { (i : ℕ) → i < 4 → get_or ring.new i 0 ≡ get_or ring.old i 0 }
 {
-    let behind = put_head(ring, lo, hi, at, head);
-    if 0 < pixels.len() {
-        return put_rest(ring, lo, hi, behind, pixels, bytes);
+    let behind = put_head(ring, place, head);
+    if pixels.is_empty() && bytes.is_empty() {
+        return behind;
     }
-    if 0 < bytes.len() {
-        return put_rest(ring, lo, hi, behind, pixels, bytes);
-    }
-    behind
+    put_rest(
+        ring,
+        Place {
+            at: behind,
+            ..place
+        },
+        pixels,
+        bytes,
+    )
 }
 
 // "NEXT_CMD once at the end": ring word 2 alone.
@@ -372,37 +277,31 @@ fn publish(ring: &mut [u32], at: usize)
 
 // ---- the write
 
-// A usable ring in words: from lo to below hi, the next word at next, and so many words free.
-#[derive(Clone, Copy)]
+// A usable ring: where the next word goes, and so many words free.
+#[derive(Clone, Copy, PartialEq, Eq)]
 struct Room {
-    lo: usize,
-    hi: usize,
-    next: usize,
+    next: Place,
     free: usize,
 }
 
+#[tactic(auto, using(ring::proofs::Laws::usable_when), unfolding(crate::specs::Writing::free_words, ring::specs::Waiting::between))]
 fn room_in(ring: &[u32]) -> Room
     requires { usable ring.now ≡ true }
-    ensures { (result.lo ≡ min_of ring.now / 4) × (result.hi ≡ max_of ring.now / 4)
-        × (result.next ≡ next_of ring.now / 4) × (result.free ≡ free_words ring.now) }
+    ensures { (result.next.lo ≡ min_of ring.now / 4) × (result.next.hi ≡ max_of ring.now / 4)
+        × (result.next.at ≡ next_of ring.now / 4) × (result.free ≡ free_words ring.now) }
 {
     let lo = (ring[0] / 4) as usize;
     let hi = (ring[1] / 4) as usize;
     let next = (ring[2] / 4) as usize;
     let stop = (ring[3] / 4) as usize;
-    if stop <= next {
-        return Room {
-            lo,
-            hi,
-            next,
-            free: hi - lo - 1 - (next - stop),
-        };
-    }
+    let free = if stop <= next {
+        hi - lo - 1 - (next - stop)
+    } else {
+        stop - next - 1
+    };
     Room {
-        lo,
-        hi,
-        next,
-        free: stop - next - 1,
+        next: Place { lo, hi, at: next },
+        free,
     }
 }
 
@@ -410,38 +309,36 @@ fn room_in(ring: &[u32]) -> Room
 fn lent_good(a: Asked, pixels: usize, bytes: usize) -> bool
     ensures { result ≡ eqb pixels a.pixels && eqb bytes a.bytes }
 {
-    if pixels as u64 != a.pixels {
-        return false;
-    }
-    bytes as u64 == a.bytes
+    pixels as u64 == a.pixels && bytes as u64 == a.bytes
 }
 
 // A whole command into the ring, or nothing: its words first, NEXT_CMD then. The command is its number and its arguments in document 01's order.
 // Rules out: a ring filled to its last word; a command whose last words are missing; a word stored by a write that is refused; NEXT_CMD moved on to MAX.
-pub fn write(ring: &mut [u32], head: &[u32], pixels: &[u32], bytes: &[u8]) -> WriterAnswer
+#[tactic(auto, using(ring::proofs::Laws::usable_when))]
+pub fn write(
+    ring: &mut [u32],
+    head: &[u32],
+    pixels: &[u32],
+    bytes: &[u8],
+) -> Result<(), WriterError>
     ensures { written result ring.new
         ≡ write_of ring.old (command head.now pixels.now bytes.now) }
 {
-    let good = ring::is_usable(ring);
-    if !good {
-        return WriterAnswer::RingRefused;
+    if !ring::is_usable(ring) {
+        return Err(WriterError::RingRefused);
     }
     let room = room_in(ring);
-    let lo = room.lo;
-    let hi = room.hi;
-    let a = asked_by(head, (hi - lo - 1) as u64);
-    let words = a.words;
-    let lent = lent_good(a, pixels.len(), bytes.len());
-    if words == 0 {
-        return WriterAnswer::NotACommand;
+    let carries = room.next.hi - room.next.lo - 1;
+    let Some(asked) = asked_by(head, carries as u64) else {
+        return Err(WriterError::NotACommand);
+    };
+    if !lent_good(asked, pixels.len(), bytes.len()) {
+        return Err(WriterError::LentLength);
     }
-    if !lent {
-        return WriterAnswer::LentLength;
+    if (room.free as u64) < asked.words {
+        return Err(WriterError::NoRoom);
     }
-    if (room.free as u64) < words {
-        return WriterAnswer::NoRoom;
-    }
-    let behind = put_words(ring, lo, hi, room.next, head, pixels, bytes);
+    let behind = put_words(ring, room.next, head, pixels, bytes);
     publish(ring, behind);
-    WriterAnswer::Taken
+    Ok(())
 }

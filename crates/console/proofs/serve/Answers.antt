@@ -1,18 +1,20 @@
 -- A turn serves one chunk more.
-use Rattle.console.proofs.Turning.{within_same, served_none, served_more}
+use Rattle.std.proofs.Common.{rules}
+use Rattle.console.proofs.Turning.{served_none, served_more}
 use Rattle.console.proofs.serve.Goals as goal
 
-pub loop-turns-init : goal.loop-turns-init
-loop-turns-init g c = record { served = served_none _; room = c.requires }
+pub loop-init : goal.loop-init
+loop-init g c = record { served = served_none _; room = c.requires; same = search rules }
 
-pub loop-turns-preserved-then-t : goal.loop-turns-preserved-then-t
-loop-turns-preserved-then-t g c = record {
-  served = served_more _ c.loop-turns.invariant.served c.turn-t.ensures.state;
-  room = within_same c.loop-turns.auto.buffer c.loop-turns.auto.line c.loop-turns.auto.out c.turn-t.ensures.room;
+pub loop-preserved : goal.loop-preserved
+loop-preserved g c = record {
+  served = served_more _ c.loop.invariant.served c.turn-sent.ensures.state;
+  room = c.turn-sent.ensures.room _ _ _ c.loop.invariant.room;
+  same = search rules;
 }
 
-pub loop-turns-preserved : goal.loop-turns-preserved
-loop-turns-preserved g c = record {
-  served = served_more _ c.loop-turns.invariant.served c.turn-t.ensures.state;
-  room = within_same c.loop-turns.auto.buffer c.loop-turns.auto.line c.loop-turns.auto.out c.turn-t.ensures.room;
-}
+pub returns-then-is_err-clause-served : goal.returns-then-is_err-clause-served
+returns-then-is_err-clause-served g c = served_more _ c.loop.invariant.served c.turn-sent.ensures.state
+
+pub returns-then-is_err-clause-room : goal.returns-then-is_err-clause-room
+returns-then-is_err-clause-room g c = c.turn-sent.ensures.room _ _ _ c.loop.invariant.room

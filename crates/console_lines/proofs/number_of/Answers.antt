@@ -1,39 +1,24 @@
 -- A field of no byte or more than ten is no number; a byte that is no digit ends it; at the end every byte is read.
-use Rattle.std.proofs.Common.{sym}
-use borrow.Author.Tests.{le-leb, lt-leb}
+use Rattle.std.proofs.Common.{◌≤◌, length, sym, ◌∙◌, arith}
+use Rattle.std.proofs.lemmas.Bool.Decides.{nat_tests}
 use Rattle.console_lines.specs.Lines.{number_of}
-use Rattle.console_lines.proofs.Numbers.{read_value, read_low, read_high, read_more}
+use Rattle.console_lines.proofs.Numbers.{read_value, read_other, read_more}
 use Rattle.console_lines.proofs.number_of.Goals as goal
 
-pub returns-then-n-lt1 : goal.returns-then-n-lt1
+pub returns-then-is_empty : goal.returns-then-is_empty
 unfolding number_of
-returns-then-n-lt1 c = rw (lt-leb 1 _ c.if-n-lt1.true)
+returns-then-is_empty c = grind (arith, nat_tests)
 
-pub returns-then-n-gt10 : goal.returns-then-n-gt10
-unfolding number_of
-returns-then-n-gt10 c = rw (le-leb 1 _ c.if-n-lt1.false, lt-leb _ 10 c.if-n-gt10.true)
+pub returns-then-not-is_ascii_digit : goal.returns-then-not-is_ascii_digit
+returns-then-not-is_ascii_digit c =
+    sym (read_other _ _ _ c.loop-b.invariant c.loop-b-test.true (sym c.is_ascii_digit.ensures.value ∙ c.if-not-is_ascii_digit.true))
 
-pub returns-then-b-lt48 : goal.returns-then-b-lt48
-returns-then-b-lt48 c = sym (read_low _ _ _ c.loop-i.invariant c.loop-i-test.true (rw c.wide-b.ensures at c.if-b-lt48.true))
-
-pub returns-then-b-gt57 : goal.returns-then-b-gt57
-returns-then-b-gt57 c = sym (read_high _ _ _ c.loop-i.invariant c.loop-i-test.true (rw c.wide-b.ensures at c.if-b-gt57.true))
-
-pub loop-i-preserved : goal.loop-i-preserved
-loop-i-preserved c =
-    let b = c.wide-b.ensures in
-    rw b (read_more _ _ _ c.loop-i.invariant c.loop-i-test.true (rw b at c.if-b-lt48.false) (rw b at c.if-b-gt57.false))
-
-pub returns-then-value-gt4294967295 : goal.returns-then-value-gt4294967295
-returns-then-value-gt4294967295 c =
-    rw (
-      read_value _ _ _ c.loop-i.invariant c.if-n-lt1.false c.if-n-gt10.false c.loop-i-test.false,
-      lt-leb _ 4294967295 c.if-value-gt4294967295.true,
-    )
+pub loop-b-preserved : goal.loop-b-preserved
+loop-b-preserved c =
+    rw c.from.ensures (read_more _ _ _ c.loop-b.invariant c.loop-b-test.true (sym c.is_ascii_digit.ensures.value ∙ c.if-not-is_ascii_digit.false))
 
 pub returns : goal.returns
 returns c =
-    rw (
-      read_value _ _ _ c.loop-i.invariant c.if-n-lt1.false c.if-n-gt10.false c.loop-i-test.false,
-      le-leb _ 4294967295 c.if-value-gt4294967295.false,
-    )
+    let some : 1 ≤ length c.args.field.now = grind (arith, nat_tests) in
+    let few : length c.args.field.now ≤ 10 = omega arith in
+    let number = read_value _ _ _ c.loop-b.invariant some few c.loop-b-test.false in grind (arith, nat_tests)

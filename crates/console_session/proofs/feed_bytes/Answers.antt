@@ -5,15 +5,20 @@ use Rattle.console_session.specs.Session.{fed_all, line_fed}
 use Rattle.console_session.proofs.Feeding.{fed_one, text_one, line_one}
 use Rattle.console_session.proofs.feed_bytes.Goals as goal
 
-pub loop-i-init : goal.loop-i-init
+pub loop-b-init : goal.loop-b-init
 unfolding fed_all line_fed
-loop-i-init c = record { state = refl; buffers = record { line = refl; out = put_none _ _ }; feeding = search rules }
+loop-b-init c = record {
+  state = refl;
+  buffers = record { line = refl; out = put_none _ _ };
+  feeding = search rules;
+  same = search rules;
+}
 
-pub loop-i-preserved : goal.loop-i-preserved
-loop-i-preserved c =
-    let fed = c.feed_byte-t.ensures in
-    let inv = c.loop-i.invariant in
-    let more = c.loop-i-test.true in
+pub loop-b-preserved : goal.loop-b-preserved
+loop-b-preserved c =
+    let fed = c.feed_byte-session.ensures in
+    let inv = c.loop-b.invariant in
+    let more = c.loop-b-test.true in
     record {
       state = rw (fed_one _ _ _ more, ← inv.state) fed.state;
       buffers = record {
@@ -21,4 +26,5 @@ loop-i-preserved c =
         out = rw (text_one _ _ _ more, ← inv.state) (put_then inv.buffers.out fed.buffers.out);
       };
       feeding = search rules;
+      same = search rules;
     }

@@ -1,27 +1,12 @@
--- Refused, or by the spans of its columns and its rows.
-use Rattle.std.proofs.Common.{not, ap}
-use Rattle.cursor.proofs.Spans.{visible_inside, overlay_refused, overlay_is_visible}
+-- The visible columns and rows lie in the picture and in the image.
+use Rattle.std.proofs.Common.{sym, ◌∙◌}
+use Rattle.cursor.proofs.Spans.{in_picture, in_image}
 use Rattle.cursor.proofs.overlay.Goals as goal
 
-pub returns-then-not-fits : goal.returns-then-not-fits
-returns-then-not-fits c =
-    let a = c.args in
-    overlay_refused a.width a.rows a.shape a.x a.y a.image.now a.picture.now _ c.overlay_fits-fits.ensures (ap not c.if-not-fits.true)
+pub overlay_visible-requires-clause-in_picture : goal.overlay_visible-requires-clause-in_picture
+overlay_visible-requires-clause-in_picture c =
+    rw (c.span_of-columns.ensures, c.span_of-lines.ensures) (in_picture _ _ _ c.args.at.x c.args.at.y _ _ (sym c.overlay_fits.ensures ∙ c.if-not-overlay_fits.false))
 
-pub overlay_visible-requires-clause-inside : goal.overlay_visible-requires-clause-inside
-overlay_visible-requires-clause-inside c =
-    let a = c.args in
-    (visible_inside a.width a.rows a.shape a.x a.y a.image.now a.picture.now _ c.overlay_fits-fits.ensures (ap not c.if-not-fits.false)
-    _ _ c.span_of-columns.ensures c.span_of-lines.ensures).0
-
-pub overlay_visible-requires-clause-inside_2 : goal.overlay_visible-requires-clause-inside_2
-overlay_visible-requires-clause-inside_2 c =
-    let a = c.args in
-    (visible_inside a.width a.rows a.shape a.x a.y a.image.now a.picture.now _ c.overlay_fits-fits.ensures (ap not c.if-not-fits.false)
-    _ _ c.span_of-columns.ensures c.span_of-lines.ensures).1
-
-pub returns : goal.returns
-returns c =
-    let a = c.args in
-    overlay_is_visible a.width a.rows a.shape a.x a.y a.image.now a.picture.now _ c.overlay_fits-fits.ensures (ap not c.if-not-fits.false)
-    _ _ c.span_of-columns.ensures c.span_of-lines.ensures _ c.overlay_visible.ensures
+pub overlay_visible-requires-clause-in_image : goal.overlay_visible-requires-clause-in_image
+overlay_visible-requires-clause-in_image c =
+    rw (c.span_of-columns.ensures, c.span_of-lines.ensures) (in_image _ _ _ c.args.at.x c.args.at.y _ _ (sym c.overlay_fits.ensures ∙ c.if-not-overlay_fits.false))

@@ -16,10 +16,10 @@ loop-j-preserved c =
     let more = c.loop-j-test.true in
     let from = (a.lines.skip + c.loop-j.j) * a.w + a.columns.skip in
     let m : from + a.columns.n - from ≡ a.columns.n = omega arith in
-    rows_turn c.loop-j.invariant c.requires.inside more _ _ c.blend_row.ensures
+    rows_turn c.loop-j.invariant c.requires.in_picture more _ _ c.blend_row.ensures
     (λ k t stood. rw (m, stood)
     (ap (λ (p : ℕ). blend_pixel p (get_or a.picture.now k 0))
-    (row_visible a.width a.w a.columns a.lines a.image.now _ k c.requires.inside.across (row_room c.requires.inside_2 more) t)))
+    (row_visible a.width a.w a.columns a.lines a.image.now _ k c.requires.in_picture.across (row_room c.requires.in_image more) t)))
 
 pub returns : goal.returns
 unfolding overlaid_visible

@@ -5,6 +5,6 @@ use Rattle.raster.proofs.copy.Goals as goal
 
 pub copy_cut-requires : goal.copy_cut-requires
 copy_cut-requires c =
-    let fit = rows_fit_lem _ _ _ (sym c.rows_fit-fits.ensures ∙ c.if-not-fits.false) in
-    let both = copy_inside _ _ _ _ _ _ (sym c.in-Rectangle.ensures) _ fit.long in
-    record { inside = both.0; inside_2 = both.1; width_le_max_width = fit.narrow }
+    let fit = rows_fit_lem _ _ _ (sym c.lies_in.ensures ∙ c.if-not-lies_in.false) in
+    let both = copy_inside _ _ _ _ _ _ (sym c.in-Some.ensures) _ fit.long in
+    record { to_in = both.0; from_in = both.1; narrow = fit.narrow }

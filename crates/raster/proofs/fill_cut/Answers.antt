@@ -1,17 +1,11 @@
 -- `fill_cut` meets its contract: operation 3 stores the colour, in a single pixel or in rows.
 use Rattle.std.proofs.Common.{◌∙◌, rules}
-use Rattle.raster.proofs.Plain.{single, plain_filled, pixel_filled}
+use Rattle.raster.proofs.ByMasks.{plain_filled}
 use Rattle.raster.proofs.fill_cut.Goals as goal
 
-pub store_pixel-requires : goal.store_pixel-requires
-store_pixel-requires c =
-    let one = single c.args.area c.is_pixel-single.ensures c.if-single.true in
-    rw (one.0, one.1) at c.requires
+pub returns-then-area-eq1-2 : goal.returns-then-area-eq1-2
+returns-then-area-eq1-2 c =
+    rw (c.if-rop-ne-COPY.false, c.if-area-eq1.true, c.if-area-eq1-2.true) ((rw c.corner_of.ensures at c.store_pixel.ensures) ∙ plain_filled _ _ _ _ c.ranges.colour.fits (λ k. search rules))
 
-pub returns-then-single : goal.returns-then-single
-returns-then-single c =
-    let one = single c.args.area c.is_pixel-single.ensures c.if-single.true in
-    rw c.if-rop-ne3.false (c.store_pixel.ensures ∙ pixel_filled _ _ _ _ one c.ranges.colour.fits (λ k. search rules))
-
-pub returns : goal.returns
-returns c = rw c.if-rop-ne3.false (c.store_rows.ensures ∙ plain_filled _ _ _ _ c.ranges.colour.fits (λ k. search rules))
+pub returns-else-area-eq1 : goal.returns-else-area-eq1
+returns-else-area-eq1 c = rw c.if-rop-ne-COPY.false (c.fill_rows.ensures ∙ plain_filled _ _ _ _ c.ranges.colour.fits (λ k. search rules))

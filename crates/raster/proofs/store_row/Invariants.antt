@@ -1,11 +1,6 @@
--- `store_row` meets its contract: the loop stores the colour from the front.
-use Prim.Native.Nat.{◌-◌}
-use lib.ListN.{length}
+-- The loop stores the colour from the front.
 use Rattle.geometry.proofs.Tabulate.{Front}
 use Rattle.raster.proofs.store_row.Given as goal
 
-abbrev pub invariant-loop-i : goal.invariant-loop-i
-invariant-loop-i l = Front (λ k. l.colour) l.initial.row l.row l.i
-
-abbrev pub decreases-loop-i : goal.decreases-loop-i
-decreases-loop-i l = length l.initial.row - l.i
+abbrev pub invariant-loop-p : goal.invariant-loop-p
+invariant-loop-p l = Front (λ k. l.colour) l.initial.row l.row l.p-index

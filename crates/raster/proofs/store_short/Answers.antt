@@ -21,4 +21,4 @@ pub returns : goal.returns
 returns c =
     let at = c.loop-i in
     let n = length c.args.row.now in
-    all_stored (part_stored at.invariant.2 _ (n - 4) (n - (n - 4)) (omega arith) (omega arith) c.store_row-3.ensures) (omega arith)
+    all_stored (part_stored at.invariant.2 _ (n - 4) (length at.row - (n - 4)) (omega arith) (omega arith) c.store_row-3.ensures) (omega arith)

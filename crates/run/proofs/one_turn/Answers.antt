@@ -1,13 +1,13 @@
 -- The line's first ten words say what the turn does.
 use Rattle.std.proofs.Common.{arith}
-use Rattle.effect.specs.Effects.{scene}
+use Rattle.run.specs.Going.{scene_of}
 use Rattle.run.proofs.TurnLaws.{stops, turn_drained, line_fits, line_goes, line_kept, line_same, line_short, line_faults, line_long}
 use Rattle.run.proofs.one_turn.Goals as goal
 
-pub returns-then-n-eq0 : goal.returns-then-n-eq0
-returns-then-n-eq0 c =
+pub returns-then-v-eq0 : goal.returns-then-v-eq0
+returns-then-v-eq0 c =
     let a = c.args in
-    rw c.stopped.ensures (stops _ a.v a.ring.now _ _ (turn_drained _ a.v a.ring.now _ c.if-n-eq0.true))
+    stops _ a.v a.ring.now _ _ (turn_drained _ a.v a.ring.now _ c.if-v-eq0.true)
 
 pub executed-requires-clause-size_le_n : goal.executed-requires-clause-size_le_n
 executed-requires-clause-size_le_n c =
@@ -31,7 +31,7 @@ returns-in-Short c =
     let l = c.fill_line-end.ensures in
     let t = c.line_turn-p.ensures in
     let z = t.1.short c.in-Short.is in
-    rw (c.stopped-in-Short.ensures, line_kept _ _ _ h.inside h.carries l t.0 z.0)
+    rw (line_kept _ _ _ h.inside h.carries l t.0 z.0)
     (stops _ a.v a.ring.now _ _ (line_short _ _ _ h.inside h.carries l t.0 z.0 z.1 (omega arith) _))
 
 pub returns-in-Faults : goal.returns-in-Faults
@@ -41,7 +41,7 @@ returns-in-Faults c =
     let l = c.fill_line-end.ensures in
     let t = c.line_turn-p.ensures in
     let z = t.1.faults _ c.in-Faults.is in
-    rw (c.stopped-in-Faults.ensures, line_kept _ _ _ h.inside h.carries l t.0 z.0)
+    rw (line_kept _ _ _ h.inside h.carries l t.0 z.0)
     (stops _ a.v a.ring.now _ _ (line_faults _ _ _ h.inside h.carries l t.0 z.0 _ z.1 _))
 
 pub data_turn-requires-clause-le_n : goal.data_turn-requires-clause-le_n
@@ -59,4 +59,4 @@ returns-in-Long c =
     let t = c.line_turn-p.ensures in
     let z = t.1.long _ c.in-Long.is in
     rw (line_kept _ _ _ h.inside h.carries c.fill_line-end.ensures t.0 z.0)
-    (c.data_turn.ensures (scene a.frame a.framebuffer.now a.posts) a.screen.now)
+    (c.data_turn.ensures (scene_of a.stage) a.screen.now)

@@ -26,8 +26,8 @@ unnamed row other k is no_cursor no_escape no_foreign =
     no_long D.Cursor e = no_cursor (is ∙ e)
     no_long D.Escape e = no_escape (is ∙ e)
 
-pub returns-then-row-eq0 : goal.returns-then-row-eq0
-returns-then-row-eq0 c = ap pause_of (sym (step_none tt c.args.row.now c.if-row-eq0.true))
+pub returns-in_default : goal.returns-in_default
+returns-in_default c = ap pause_of (sym (step_none tt c.args.row.now (omega (arith, c.in_default.len_below))))
 
 pub returns-in-DefineAlphaCursor : goal.returns-in-DefineAlphaCursor
 returns-in-DefineAlphaCursor c = ap pause_of (sym (step_long tt c.args.row.now D.Cursor (ap data_of (sym c.in-DefineAlphaCursor.ensures))))
@@ -39,8 +39,8 @@ pub returns-in-Foreign : goal.returns-in-Foreign
 unfolding entry
 returns-in-Foreign c = ap pause_of (sym (step_foreign tt c.args.row.now Foreign (sym c.in-Foreign.ensures) refl (omega arith) refl))
 
-pub returns-in_default : goal.returns-in_default
-returns-in_default c =
+pub returns-in_default-kind : goal.returns-in_default-kind
+returns-in_default-kind c =
     c.fixed_pause.ensures
     ∙ ap (λ (n : ℕ). cond (ltb (length c.args.row.now) n) Short (Faults BadOperand)) c.head_words.ensures
-    ∙ unnamed c.args.row.now c.requires _ c.kind_of-kind.ensures c.in_default.not-DefineAlphaCursor c.in_default.not-Escape c.in_default.not-Foreign
+    ∙ unnamed c.args.row.now c.requires _ c.from-kind.ensures c.in_default-kind.not-DefineAlphaCursor c.in_default-kind.not-Escape c.in_default-kind.not-Foreign

@@ -1,7 +1,7 @@
 -- Commands in a row and single turns are parts of the whole run, and a run may go on from where each of them ends.
-use Rattle.std.proofs.Common.{refl, ap, arith}
+use Rattle.std.proofs.Common.{refl, arith}
 use Rattle.run.specs.Turns.{place_of}
-use Rattle.run.specs.Going.{stop_of}
+use Rattle.run.proofs.Laws.{in_largest}
 use Rattle.run.proofs.Posting.{clear_min}
 use Rattle.run.proofs.Loop.{row_bounds, going_start, going_rows, going_one, going_stops, going_spent, going_left, can_stand}
 use Rattle.run.proofs.turns.Goals as goal
@@ -9,18 +9,18 @@ use Rattle.run.proofs.turns.Goals as goal
 pub loop-left-init : goal.loop-left-init
 loop-left-init c = going_start _ _ _ _ _ c.requires.inside
 
-pub row_end-end-requires : goal.row_end-end-requires
-row_end-end-requires c =
+pub row_end-requires : goal.row_end-requires
+row_end-requires c =
     let at = c.loop-left in
     let s = can_stand c.requires at.invariant {cursor = at.cursor} at.auto.cursor in
-    (s.inside.below, s.inside.held, s.small)
+    in_largest s
 
-pub row_turns-p-requires : goal.row_turns-p-requires
-row_turns-p-requires c =
+pub row_turns-row-requires : goal.row_turns-row-requires
+row_turns-row-requires c =
     let at = c.loop-left in
     let s = can_stand c.requires at.invariant {cursor = at.cursor} at.auto.cursor in
     let b = row_bounds at.ring at.v s.inside in
-    let e = c.row_end-end.ensures in (
+    let e = c.row_end.ensures in (
       omega (arith, s.low, s.inside.from),
       omega (arith, b, e),
       omega (arith, b, e, s.inside.fits),
@@ -33,49 +33,49 @@ pass-v-requires c =
     let at = c.loop-left in
     let s = can_stand c.requires at.invariant {cursor = at.cursor} at.auto.cursor in
     let b = row_bounds at.ring at.v s.inside in
-    (s.inside.from, s.inside.below, omega (arith, b, c.row_end-end.ensures, c.row_turns-p.ensures.0.within), s.inside.held, s.small)
+    record { in_view = in_largest s; there = omega (arith, b, c.row_end.ensures, c.row_turns-row.ensures.0.within) }
 
-pub one_turn-t-requires : goal.one_turn-t-requires
-one_turn-t-requires c =
+pub one_turn-requires : goal.one_turn-requires
+one_turn-requires c =
     let at = c.loop-left in
     let s = can_stand c.requires at.invariant {cursor = at.cursor} at.auto.cursor in
-    let g = going_rows c.requires at.invariant s c.row_end-end.ensures c.row_turns-p.ensures.0 _ c.pass-v.ensures in
+    let g = going_rows c.requires at.invariant s c.row_end.ensures c.row_turns-row.ensures.0 _ c.pass-v.ensures in
     can_stand c.requires g {cursor = at.cursor} at.auto.cursor
 
-pub loop-left-preserved-in-Goes : goal.loop-left-preserved-in-Goes
-loop-left-preserved-in-Goes c =
+pub loop-left-preserved-in-Ok : goal.loop-left-preserved-in-Ok
+loop-left-preserved-in-Ok c =
     let at = c.loop-left in
     let s = can_stand c.requires at.invariant {cursor = at.cursor} at.auto.cursor in
-    let g = going_rows c.requires at.invariant s c.row_end-end.ensures c.row_turns-p.ensures.0 _ c.pass-v.ensures in
+    let g = going_rows c.requires at.invariant s c.row_end.ensures c.row_turns-row.ensures.0 _ c.pass-v.ensures in
     let here = can_stand c.requires g {cursor = at.cursor} at.auto.cursor in
-    going_one c.requires g here c.if-left-gt0.true _ c.one_turn-t.ensures (ap stop_of c.in-Goes.is)
+    going_one c.requires g here c.if-left-gt0.true _ (rw c.in-Ok.is at c.one_turn.ensures) refl
 
 pub ran_to-requires : goal.ran_to-requires
 ran_to-requires c =
     let at = c.loop-left in
     let s = can_stand c.requires at.invariant {cursor = at.cursor} at.auto.cursor in
-    let g = going_rows c.requires at.invariant s c.row_end-end.ensures c.row_turns-p.ensures.0 _ c.pass-v.ensures in
+    let g = going_rows c.requires at.invariant s c.row_end.ensures c.row_turns-row.ensures.0 _ c.pass-v.ensures in
     let here = can_stand c.requires g {cursor = at.cursor} at.auto.cursor in
-    (omega (arith, here.inside.from, here.inside.below), omega (arith, here.inside.below), here.small)
+    in_largest here
 
-pub returns-in-Stops : goal.returns-in-Stops
-returns-in-Stops c =
+pub returns-in-Err : goal.returns-in-Err
+returns-in-Err c =
     let at = c.loop-left in
     let s = can_stand c.requires at.invariant {cursor = at.cursor} at.auto.cursor in
-    let g = going_rows c.requires at.invariant s c.row_end-end.ensures c.row_turns-p.ensures.0 _ c.pass-v.ensures in
-    rw c.ran_to.ensures (going_stops c.requires g c.if-left-gt0.true _ c.one_turn-t.ensures _ (ap stop_of c.in-Stops.is) _ refl refl refl refl refl)
+    let g = going_rows c.requires at.invariant s c.row_end.ensures c.row_turns-row.ensures.0 _ c.pass-v.ensures in
+    rw c.ran_to.ensures (going_stops c.requires g c.if-left-gt0.true _ (rw c.in-Err.is at c.one_turn.ensures) _ refl _ refl refl refl refl refl)
 
 pub loop-left-preserved : goal.loop-left-preserved
 loop-left-preserved c =
     let at = c.loop-left in
     let s = can_stand c.requires at.invariant {cursor = at.cursor} at.auto.cursor in
-    going_rows c.requires at.invariant s c.row_end-end.ensures c.row_turns-p.ensures.0 _ c.pass-v.ensures
+    going_rows c.requires at.invariant s c.row_end.ensures c.row_turns-row.ensures.0 _ c.pass-v.ensures
 
 pub ran_to-requires-2 : goal.ran_to-requires-2
 ran_to-requires-2 c =
     let at = c.loop-left in
     let s = can_stand c.requires at.invariant {cursor = at.cursor} at.auto.cursor in
-    (omega (arith, s.inside.from, s.inside.below), omega (arith, s.inside.below), s.small)
+    in_largest s
 
 pub returns : goal.returns
 returns c =

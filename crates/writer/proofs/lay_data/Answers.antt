@@ -20,44 +20,44 @@ inside lo hi at j p h is =
     let i = ahead_in lo hi at j (record { from = h.from; below = h.below; held = omega (arith, h.held) }) in
     omega (arith, i.1)
 
-pub loop-j-init : goal.loop-j-init
+pub loop-i-init : goal.loop-i-init
 unfolding laid
-loop-j-init c = let a = c.args in (omega arith, sym (ahead_zero a.lo a.hi a.at (omega arith)), refl, refl)
+loop-i-init c = let a = c.args in (omega arith, sym (ahead_zero a.place.lo a.place.hi a.place.at (omega arith)), refl, refl)
 
-pub offset_bounds-ring-p : goal.offset_bounds-ring-p
-offset_bounds-ring-p c =
+pub offset_bounds-ring-at : goal.offset_bounds-ring-at
+offset_bounds-ring-at c =
     let a = c.args in
-    let h = one_more a.lo a.hi a.at c.loop-j.j a.bytes.now (omega arith) (omega arith) (omega arith) c.loop-j-test.true in
-    let i = inside a.lo a.hi a.at c.loop-j.j c.loop-j.p h c.loop-j.invariant.1 in
+    let h = one_more a.place.lo a.place.hi a.place.at c.loop-i.i a.bytes.now c.requires.held.from c.requires.held.below (omega arith) (omega (arith, c.loop-i-test.true, c.div_ceil-i-end.ensures)) in
+    let i = inside a.place.lo a.place.hi a.place.at c.loop-i.i c.loop-i.at h c.loop-i.invariant.1 in
     omega arith
 
-pub bounds-ring-p : goal.bounds-ring-p
-bounds-ring-p c =
+pub bounds-ring-at : goal.bounds-ring-at
+bounds-ring-at c =
     let a = c.args in
-    let h = one_more a.lo a.hi a.at c.loop-j.j a.bytes.now (omega arith) (omega arith) (omega arith) c.loop-j-test.true in
-    let i = inside a.lo a.hi a.at c.loop-j.j c.loop-j.p h c.loop-j.invariant.1 in
+    let h = one_more a.place.lo a.place.hi a.place.at c.loop-i.i a.bytes.now c.requires.held.from c.requires.held.below (omega arith) (omega (arith, c.loop-i-test.true, c.div_ceil-i-end.ensures)) in
+    let i = inside a.place.lo a.place.hi a.place.at c.loop-i.i c.loop-i.at h c.loop-i.invariant.1 in
     omega arith
 
-pub after-p-requires : goal.after-p-requires
-after-p-requires c =
+pub after-at-requires : goal.after-at-requires
+after-at-requires c =
     let a = c.args in
-    let h = one_more a.lo a.hi a.at c.loop-j.j a.bytes.now (omega arith) (omega arith) (omega arith) c.loop-j-test.true in
-    inside a.lo a.hi a.at c.loop-j.j c.loop-j.p h c.loop-j.invariant.1
+    let h = one_more a.place.lo a.place.hi a.place.at c.loop-i.i a.bytes.now c.requires.held.from c.requires.held.below (omega arith) (omega (arith, c.loop-i-test.true, c.div_ceil-i-end.ensures)) in
+    inside a.place.lo a.place.hi a.place.at c.loop-i.i c.loop-i.at h c.loop-i.invariant.1
 
-pub loop-j-preserved : goal.loop-j-preserved
-loop-j-preserved c =
+pub loop-i-preserved : goal.loop-i-preserved
+loop-i-preserved c =
     let a = c.args in
-    let now = c.loop-j in
-    let h = one_more a.lo a.hi a.at now.j a.bytes.now (omega arith) (omega arith) (omega arith) c.loop-j-test.true in
-    let so_far : InRing a.lo a.hi a.at now.j = record { from = h.from; below = h.below; held = omega (arith, h.held) } in
+    let now = c.loop-i in
+    let h = one_more a.place.lo a.place.hi a.place.at now.i a.bytes.now c.requires.held.from c.requires.held.below (omega arith) (omega (arith, c.loop-i-test.true, c.div_ceil-i-end.ensures)) in
+    let so_far : InRing a.place.lo a.place.hi a.place.at now.i = record { from = h.from; below = h.below; held = omega (arith, h.held) } in
     let n = length_data a.bytes.now in
-    let word : c.word_from.result ≡ get_or (data_words a.bytes.now) now.j 0 =
-    c.word_from.ensures ∙ sym (data_word a.bytes.now now.j c.loop-j-test.true) in (
+    let word : c.word_from.result ≡ get_or (data_words a.bytes.now) now.i 0 =
+    c.word_from.ensures ∙ sym (data_word a.bytes.now now.i (omega (arith, c.loop-i-test.true, c.div_ceil-i-end.ensures))) in (
       omega arith,
-      c.after-p.ensures ∙ ap (after a.lo a.hi) now.invariant.1 ∙ after_ahead a.lo a.hi a.at now.j h,
+      c.after-at.ensures ∙ ap (after a.place.lo a.place.hi) now.invariant.1 ∙ after_ahead a.place.lo a.place.hi a.place.at now.i h,
       rw (now.invariant.2, now.invariant.1, word)
-          (laid_suc a.lo a.hi a.at (data_words a.bytes.now) a.ring.now now.j so_far (omega arith)
-          ∙ ap (λ k. laid a.lo a.hi a.at (take k (data_words a.bytes.now)) a.ring.now) (sym (add-one now.j))),
+          (laid_suc a.place.lo a.place.hi a.place.at (data_words a.bytes.now) a.ring.now now.i so_far (omega arith)
+          ∙ ap (λ k. laid a.place.lo a.place.hi a.place.at (take k (data_words a.bytes.now)) a.ring.now) (sym (add-one now.i))),
       simp length-set now.invariant.3,
     )
 
@@ -65,11 +65,11 @@ pub returns-clause-ring_after : goal.returns-clause-ring_after
 returns-clause-ring_after c =
     let a = c.args in
     let n = length_data a.bytes.now in
-    c.loop-j.invariant.2 ∙ ap (λ u. laid a.lo a.hi a.at u a.ring.now) (take_all c.loop-j.j (data_words a.bytes.now) (omega arith))
+    c.loop-i.invariant.2 ∙ ap (λ u. laid a.place.lo a.place.hi a.place.at u a.ring.now) (take_all c.loop-i.i (data_words a.bytes.now) (omega arith))
 
 pub returns-clause-value : goal.returns-clause-value
 returns-clause-value c =
     let a = c.args in
     let n = length_data a.bytes.now in
-    let e : c.loop-j.j ≡ length (data_words a.bytes.now) = omega arith in
-    c.loop-j.invariant.1 ∙ ap (ahead a.lo a.hi a.at) e
+    let e : c.loop-i.i ≡ length (data_words a.bytes.now) = omega arith in
+    c.loop-i.invariant.1 ∙ ap (ahead a.place.lo a.place.hi a.place.at) e

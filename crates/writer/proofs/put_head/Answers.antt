@@ -5,11 +5,11 @@ use Rattle.ring.specs.Waiting.{ahead}
 use Rattle.writer.proofs.Laying.{laid_row}
 use Rattle.writer.proofs.put_head.Goals as goal
 
-pub returns-then-past-hi-clause-ring_after : goal.returns-then-past-hi-clause-ring_after
-returns-then-past-hi-clause-ring_after c =
+pub returns-then-past-place-clause-ring_after : goal.returns-then-past-place-clause-ring_after
+returns-then-past-place-clause-ring_after c =
     let a = c.args in
-    c.lay_head.ensures ∙ sym (laid_row a.lo a.hi a.at a.head.now a.ring.now (omega arith) (omega arith))
+    c.lay_head.ensures ∙ sym (laid_row a.place.lo a.place.hi a.place.at a.head.now a.ring.now (omega arith) (omega arith))
 
-pub returns-then-past-hi-clause-value : goal.returns-then-past-hi-clause-value
+pub returns-then-past-place-clause-value : goal.returns-then-past-place-clause-value
 unfolding ahead
-returns-then-past-hi-clause-value c = let a = c.args in rw (lt-ltb (a.at + length a.head.now) a.hi (omega arith))
+returns-then-past-place-clause-value c = let a = c.args in rw (lt-ltb (a.place.at + length a.head.now) a.place.hi (omega arith))

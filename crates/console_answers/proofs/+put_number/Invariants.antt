@@ -1,5 +1,0 @@
--- The tens of a number are fewer.
-use Rattle.console_answers.proofs.+put_number.Given as goal
-
-abbrev pub decreases-put_number : goal.decreases-put_number
-decreases-put_number l = l.n
