@@ -103,17 +103,6 @@ impl Kind {
 
 // ---- a row of words
 
-// A command of so many words, judged once all of them are there.
-fn checked(good: bool, action: Action, words: usize) -> Step
-    ensures { result ≡ cond good (Does action words) (Faults BadOperand) }
-{
-    if good {
-        Step::Does(action, words)
-    } else {
-        Step::Faults(Cause::BadOperand)
-    }
-}
-
 // The one dispatch: what the front of a row of words says. Only the words of the command's own head are read.
 // Rules out: a raster operation or a fence of 0 judged before all words are there; a foreign number that waits; a plain copy by another operation than 3.
 // Inlined, for the run's loop, which has a few ns for a command.
@@ -135,13 +124,13 @@ pub fn step_in(row: &[u32]) -> Step
             Action::Copy(Point { x: sx, y: sy }, Rect { x, y, w, h }, 3),
             7,
         ),
-        (Kind::RectRopFill, &[_, colour, x, y, w, h, rop, ..]) => checked(
-            rop <= 15,
+        (Kind::RectRopFill, &[_, _, _, _, _, _, (16..), ..]) => Step::Faults(Cause::BadOperand),
+        (Kind::RectRopFill, &[_, colour, x, y, w, h, rop, ..]) => Step::Does(
             Action::Fill(Rect { x, y, w, h }, colour, rop),
             7,
         ),
-        (Kind::RectRopCopy, &[_, sx, sy, x, y, w, h, rop, ..]) => checked(
-            rop <= 15,
+        (Kind::RectRopCopy, &[_, _, _, _, _, _, _, (16..), ..]) => Step::Faults(Cause::BadOperand),
+        (Kind::RectRopCopy, &[_, sx, sy, x, y, w, h, rop, ..]) => Step::Does(
             Action::Copy(Point { x: sx, y: sy }, Rect { x, y, w, h }, rop),
             8,
         ),
@@ -149,7 +138,8 @@ pub fn step_in(row: &[u32]) -> Step
             Action::Update(Rect { x, y, w, h }),
             6,
         ),
-        (Kind::Fence, &[_, number, ..]) => checked(number != 0, Action::Fence(number), 2),
+        (Kind::Fence, &[_, 0, ..]) => Step::Faults(Cause::BadOperand),
+        (Kind::Fence, &[_, number, ..]) => Step::Does(Action::Fence(number), 2),
         (Kind::DefineAlphaCursor, _) => Step::Long(Data::Cursor),
         (Kind::Escape, _) => Step::Long(Data::Escape),
         (Kind::Foreign, _) => Step::Faults(Cause::NotOffered),
