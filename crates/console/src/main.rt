@@ -2,7 +2,7 @@
 // is `console_session`'s; here are the reads and the writes.
 #![tactic(auto)]
 
-ghost use Rattle.std.specs.Prelude.{ℕ, ◌≤◌, ◌≡◌, length, IfSome};
+ghost use Rattle.std.specs.Prelude.{ℕ, ◌≤◌, ◌<◌, ◌≡◌, ◌&&◌, ltb, length, take, is_ok, IfSome};
 ghost use Rattle.console_answers.specs.Put.{put_at};
 ghost use Rattle.console_session.specs.Console.{contents, SameMemories};
 ghost use Rattle.console_session.specs.Session.{state_of, unprinted, fed_all, ended, flushed, Within, Served};
@@ -19,7 +19,7 @@ const TEXT: usize = 26 * CHUNK;
 
 // One read: how many bytes of the buffer it filled. None at the end of the input, which a read that fails is too.
 fn fill<R: Read>(input: &mut R, buffer: &mut [u8]) -> Option<usize>
-    ensures { IfSome result (λ n. n ≤ length buffer.new) }
+    ensures { IfSome result (λ n. (0 < n) × (n ≤ length buffer.new)) }
 {
     match input.read(buffer) {
         Ok(0) | Err(_) => None,
@@ -33,25 +33,44 @@ fn write_out<W: Write>(output: &mut W, text: &[u8]) -> io::Result<()> {
     output.flush()
 }
 
-// The lines of what one read gave, and one write. Every byte is fed: there is always room.
+// How many bytes a turn read, and whether what it printed was taken.
+#[derive(Drop)]
+struct Step {
+    read: usize,
+    sent: io::Result<()>,
+}
+
+impl Step {
+    // Nothing read is the input's end; nobody reads what cannot be written.
+    fn goes_on(&self) -> bool
+        ensures { result ≡ is_ok self.now.sent && ltb 0 self.now.read }
+    {
+        self.sent.is_ok() && 0 < self.read
+    }
+}
+
+// One read, its lines, one write. Every byte read is fed: there is always room.
 #[tactic(auto, using(console_session::proofs::Feeding::within_fits))]
-fn turn<W: Write>(
+fn turn<R: Read, W: Write>(
+    input: &mut R,
     output: &mut W,
     session: &mut Session,
-    chunk: &[u8],
+    buffer: &mut [u8],
     line: &mut [u8],
     memories: &mut Memories<'_>,
     out: &mut [u8],
-) -> io::Result<()>
-    requires { Within session.old (length chunk.now) (length line.old) (length out.old) }
+) -> Step
+    requires { Within session.old (length buffer.old) (length line.old) (length out.old) }
     ensures state { state_of session.new line.new (contents memories.new) out.new
-        ≡ flushed (fed_all (state_of session.old line.old (contents memories.old) out.old) chunk.now) }
+        ≡ flushed (fed_all (state_of session.old line.old (contents memories.old) out.old) (take result.read buffer.new)) }
     ensures room { (n l o : ℕ) → Within session.old n l o → Within session.new n l o }
     ensures same { SameMemories memories.new memories.old }
 {
-    let fed = console_session::feed(*session, chunk, line, memories, out);
+    let read = fill(input, buffer).unwrap_or(0);
+    let fed = console_session::feed(*session, &buffer[..read], line, memories, out);
     *session = console_session::flush(fed);
-    write_out(output, &out[..fed.printed])
+    let sent = write_out(output, &out[..fed.printed]);
+    Step { read, sent }
 }
 
 // Reads and feeds until the input ends, or nobody takes what is written. Nothing says that it does, and a proved loop has to: turns are
@@ -73,11 +92,8 @@ fn serve<R: Read, W: Write>(
 {
     let mut session = s;
     for _ in 0..u64::MAX {
-        let Some(n) = fill(input, buffer) else {
-            break;
-        };
-        let sent = turn(output, &mut session, &buffer[..n], line, memories, out);
-        if sent.is_err() {
+        let done = turn(input, output, &mut session, buffer, line, memories, out);
+        if !done.goes_on() {
             break;
         }
     }

@@ -8,13 +8,13 @@ loop-init g c = record { served = served_none _; room = c.requires; same = searc
 
 pub loop-preserved : goal.loop-preserved
 loop-preserved g c = record {
-  served = served_more _ c.loop.invariant.served c.turn-sent.ensures.state;
-  room = c.turn-sent.ensures.room _ _ _ c.loop.invariant.room;
+  served = served_more _ c.loop.invariant.served c.turn-done.ensures.state;
+  room = c.turn-done.ensures.room _ _ _ c.loop.invariant.room;
   same = search rules;
 }
 
-pub returns-then-is_err-clause-served : goal.returns-then-is_err-clause-served
-returns-then-is_err-clause-served g c = served_more _ c.loop.invariant.served c.turn-sent.ensures.state
+pub returns-then-not-goes_on-clause-served : goal.returns-then-not-goes_on-clause-served
+returns-then-not-goes_on-clause-served g c = served_more _ c.loop.invariant.served c.turn-done.ensures.state
 
-pub returns-then-is_err-clause-room : goal.returns-then-is_err-clause-room
-returns-then-is_err-clause-room g c = c.turn-sent.ensures.room _ _ _ c.loop.invariant.room
+pub returns-then-not-goes_on-clause-room : goal.returns-then-not-goes_on-clause-room
+returns-then-not-goes_on-clause-room g c = c.turn-done.ensures.room _ _ _ c.loop.invariant.room
