@@ -2,7 +2,7 @@
 #![tactic(auto)]
 
 ghost use Rattle.std.specs.Prelude.{◌≡◌, length, replicate};
-ghost use Rattle.device_words.specs.Words.{defined_parts, condition_parts, setting_words, words_of, defined_from, condition_from, device_from, spelled_in, put_in};
+ghost use Rattle.device_words.specs.Words.{defined_parts, condition_parts, setting_words, words_of, defined_from, condition_from, device_from, same, spelled_in, put_in};
 
 use adapter::{Condition, Device, Plane, Registers, Sizes};
 use cursor::Shape;
@@ -179,9 +179,22 @@ fn device_from(w: &[u32]) -> Device
 
 // ---- the device in lent words
 
+// Whether the lent words are these. All are looked at: the loop then takes several at a time. With `==` of arrays the calls of C took 1.1
+// to 1.3 of their time, with `==` of slices more.
+fn are_same(own: &[u32], lent: &[u32]) -> bool
+    requires { (length own.now ≡ 64) × (length lent.now ≡ 64) }
+    ensures { result ≡ same own.now lent.now }
+{
+    let mut n = 0;
+    for i in 0..64 {
+        n += u32::from(own[i] != lent[i]);
+    }
+    n == 0
+}
+
 // The device that the lent words spell. Whether it is well-formed its callers test.
 // Rules out: a device in 63 words; a device where a spare word is not 0.
-#[tactic(auto, using(crate::proofs::Laws::spelled_by), unfolding(crate::specs::Words::spelled_in))]
+#[tactic(auto, using(crate::proofs::Laws::spelled_if), unfolding(crate::specs::Words::spelled_in))]
 pub fn spelled_in(w: &[u32]) -> Option<Device>
     ensures { result ≡ spelled_in w.now }
 {
@@ -189,7 +202,11 @@ pub fn spelled_in(w: &[u32]) -> Option<Device>
         return None;
     }
     let d = device_from(w);
-    (words_of(d).as_slice() == w).then_some(d)
+    // With a return of its own: an `if` for both values chose each field of them by itself.
+    if !are_same(&words_of(d), w) {
+        return None;
+    }
+    Some(d)
 }
 
 // The device's words into the lent ones.

@@ -160,7 +160,8 @@ fn write_cursor_on(d: Device, value: u32) -> Device
     }
 }
 
-// Each register's own effect; of CONFIG_DONE that of 0.
+// Each register's own effect; of CONFIG_DONE that of 0. Inlined, since a device is passed and returned by way of memory.
+#[inline(always)]
 #[tactic(auto, unfolding(crate::specs::Registers::effect_of))]
 fn effect(d: Device, value: u32, w: Writable) -> Device
     ensures { result ≡ effect_of d value w }

@@ -29,6 +29,8 @@ fn pack(answer: u32, value: u32) -> u64
 }
 
 // The well-formed device that the words hold. The calls that test it themselves go by `device_words::spelled_in`.
+// Inlined, since a device is returned by way of memory: a call for it took as long as the rest.
+#[inline(always)]
 #[tactic(auto, unfolding(device_words::specs::Words::held_in))]
 fn held(device: &[u32]) -> Option<Device>
     ensures { result ≡ held_in device.now }
