@@ -143,6 +143,11 @@ module _ (lo hi p : ℕ) (u v : List ℕ) (q : ℕ) (h : InRing lo hi p (length 
 none_left : (w : List ℕ) → length w ≤ 0 → w ≡ []
 none_left w none = sym (take_all 0 w none)
 
+-- no words change nothing
+pub laid_none : (lo hi p : ℕ) (w ring : List ℕ) → length w ≤ 0 → ring ≡ laid lo hi p w ring
+unfolding laid
+laid_none lo hi p w ring n = rw (none_left w n) refl
+
 -- with no pixels and no data, those of its head
 pub command_bare : (c : Command) → length c.pixels ≤ 0 → length c.bytes ≤ 0 → command_words c ≡ c.head
 unfolding command_words

@@ -115,14 +115,16 @@ struct Place {
 }
 
 // A row of words into the ring from a place on: up to its end, and from its begin on. Answers the place behind them.
-// Apart, as what stands behind a head is, for the writes of a bare head, which take a few ns.
-#[inline(never)]
+// No words, as an ESCAPE has no pixels, need no call of memcpy.
 fn lay(ring: &mut [u32], place: Place, row: &[u32]) -> usize
     requires held { InPlace place (length ring.old) }
     requires room { length row.now + place.lo < place.hi }
     ensures ring_after { ring.new ≡ laid place.lo place.hi place.at row.now ring.old }
     ensures value { result ≡ behind place (length row.now) }
 {
+    if row.is_empty() {
+        return place.at;
+    }
     let first = place.hi - place.at;
     if row.len() < first {
         let past = place.at + row.len();
@@ -231,7 +233,6 @@ fn put_head(ring: &mut [u32], place: Place, head: &[u32]) -> usize
 }
 
 // What stands behind a head: pixels or data. Answers the place behind them.
-#[inline(never)]
 fn put_rest(ring: &mut [u32], place: Place, pixels: &[u32], bytes: &[u8]) -> usize
     requires held { InPlace place (length ring.old) }
     requires room { (length (pixels.now ++ data_words bytes.now) + place.lo < place.hi) × (length bytes.now ≤ 4294967295) }

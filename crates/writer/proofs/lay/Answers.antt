@@ -1,13 +1,28 @@
--- Words that do not wrap are one copy, and others are two.
+-- No words are none, words that do not wrap are one copy, and others are two.
 use Rattle.std.proofs.Common.{List, ℕ, ◌+◌, ◌++◌, length, refl, sym, ap, ◌∙◌, arith}
 use Rattle.std.proofs.Math.Seq.{paste}
+use Rattle.std.proofs.lemmas.Bool.{eqb-true}
 use Rattle.std.proofs.lemmas.Slice.{put_mid-paste}
 use borrow.Author.Tests.{lt-ltb, le-ltb}
 use Rattle.ring.specs.Waiting.{ahead}
 use Rattle.ring.proofs.WaitingLaws.{InRing}
 use Rattle.writer.specs.Laying.{laid}
-use Rattle.writer.proofs.Laying.{laid_row, laid_wrapped}
+use Rattle.writer.proofs.Laying.{laid_none, laid_row, laid_wrapped}
 use Rattle.writer.proofs.lay.Goals as goal
+
+pub returns-then-is_empty-clause-ring_after : goal.returns-then-is_empty-clause-ring_after
+returns-then-is_empty-clause-ring_after c =
+    let a = c.args in
+    let none = eqb-true _ 0 (sym c.if-is_empty.ensures) in
+    laid_none a.place.lo a.place.hi a.place.at a.row.now a.ring.now (omega (arith, none))
+
+pub returns-then-is_empty-clause-value : goal.returns-then-is_empty-clause-value
+unfolding ahead
+returns-then-is_empty-clause-value c =
+    let a = c.args in
+    let h = c.requires.held in
+    let none = eqb-true _ 0 (sym c.if-is_empty.ensures) in
+    rw (lt-ltb (a.place.at + length a.row.now) a.place.hi (omega (arith, none))) (omega (arith, none))
 
 pub returns-then-row-first-clause-ring_after : goal.returns-then-row-first-clause-ring_after
 returns-then-row-first-clause-ring_after c =
