@@ -4,7 +4,7 @@
 ghost use Rattle.std.specs.Prelude.{◌+◌, ◌≤◌, ◌++◌, length};
 ghost use Rattle.console_answers.specs.Text.{decimal_of, text_of};
 ghost use Rattle.console_answers.specs.Put.{Put, shown};
-ghost use Rattle.console_answers.specs.Parts.{field_of, numbers_of, Puts};
+ghost use Rattle.console_answers.specs.Parts.{numbers_of, Puts};
 
 // What a request is answered with: a register and the answer or its value, a run's answer and count, a place of the screen and its pixel.
 #[derive(Clone, Copy, PartialEq, Eq)]
@@ -53,23 +53,16 @@ impl Text<'_> {
         self.put(&[b'0' + (n % 10) as u8]);
     }
 
-    // A tab, and a number behind it.
-    fn put_field(&mut self, n: u32)
-        requires { self.old.len + 11 ≤ length self.old.bytes.now }
-        ensures { Puts (field_of n) self.old self.new }
-    {
-        self.put(b"\t");
-        self.put_number(n);
-    }
-
     // A line of a word and two numbers.
     fn put_line(&mut self, word: &[u8], first: u32, second: u32)
         requires { self.old.len + length word.now + 23 ≤ length self.old.bytes.now }
         ensures { Puts (word.now ++ numbers_of first second) self.old self.new }
     {
         self.put(word);
-        self.put_field(first);
-        self.put_field(second);
+        self.put(b"\t");
+        self.put_number(first);
+        self.put(b"\t");
+        self.put_number(second);
         self.put(b"\n");
     }
 
