@@ -52,7 +52,7 @@ module _ (list : List ℕ) (i a c : ℕ) (there : i + 2 ≤ length list) where
       (drop-cons list i 0 (omega arith) ∙ ap (λ (l : List ℕ). get_or list i 0 ∷ l) (drop-cons list (suc i) 0 (omega arith)))
 
 module _ (list₀ : List ℕ) (w₀ : World) (list : List ℕ) (w : World) (i : ℕ) (h : Walked list₀ w₀ list w i) where
-  walked_two : (p : Pair) → i + 2 ≤ length list → p ≡ pair_of (get_or list i 0) (get_or list (i + 1) 0) w
+  pub walked_two : (p : Pair) → i + 2 ≤ length list → p ≡ pair_of (get_or list i 0) (get_or list (i + 1) 0) w
       → Walked list₀ w₀ (set (set list i p.answer) (i + 1) p.count) p.world (i + 2)
   walked_two p there q =
       let on : drop (i + 2) list ≡ drop (i + 2) list₀ = sym (drop-drop 2 i list) ∙ ap (drop 2) h.rest ∙ drop-drop 2 i list₀ in
@@ -68,7 +68,7 @@ module _ (list₀ : List ℕ) (w₀ : World) (list : List ℕ) (w : World) (i : 
             ∙ ap₂ before (sym (wrote_front list i p.answer p.count there)) (ap (λ l. walk_of l p.world) on);
       }
 
-  walked_all : length list ≤ i + 1 → walk list w ≡ walk_of list₀ w₀
+  pub walked_all : length list ≤ i + 1 → walk list w ≡ walk_of list₀ w₀
   walked_all e =
       let short : length (drop i list₀) ≤ 1 = rw length-drop (omega (arith, h.same_length)) in
       sym
