@@ -17,7 +17,7 @@ pub struct Marks {
     pub defined: Option<Shape>,
 }
 
-// A fill. Its own call with the constant of a plain one keeps the painter's loops apart.
+// A fill. A plain one has a call of its own, with the constant: docs/DECISIONS.md, under what is executed.
 fn fill(screen: &mut [u32], grid: Grid, area: Rect, colour: u32, rop: u32)
     ensures { screen.new ≡ filled grid.width grid.rows area colour rop screen.old }
 {
