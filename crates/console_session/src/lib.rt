@@ -78,6 +78,8 @@ fn pixel_at(screen: &[u32], place: u32) -> u32
     screen.get(place as usize).copied().unwrap_or(0)
 }
 
+// Apart, as a run is: where the two are inlined, the device that they give back is told field by field in every other answer.
+#[inline(never)]
 fn write_register(d: Device, ring: &[u32], index: u32, value: u32) -> Performed
     ensures { result ≡ written_of index (written d ring.now index value) }
 {
@@ -95,6 +97,7 @@ fn write_register(d: Device, ring: &[u32], index: u32, value: u32) -> Performed
 
 // The four memories one by one: the borrow checker does not cover their loan out of the console's struct, the framebuffer for reading and
 // the others for writing.
+#[inline(never)]
 #[tactic(auto, using(crate::proofs::Running::keeps_framebuffer), unfolding(crate::specs::Console::performed))]
 fn run_device(
     d: Device,
@@ -125,6 +128,13 @@ fn run_device(
     }
 }
 
+// A request that leaves the device as it is.
+fn keeping(device: Device, answer: ConsoleAnswer) -> Performed
+    ensures { result ≡ record { device = device; answer = answer } }
+{
+    Performed { device, answer }
+}
+
 // Performs a request. The text of its answer is `console_answers::print`'s.
 // Rules out: a bad line that changes the device; a run that changes the framebuffer; an absent register with a value.
 #[tactic(auto, unfolding(crate::specs::Console::performed))]
@@ -132,7 +142,6 @@ pub fn perform(request: Request, d: Device, memories: &mut Memories<'_>) -> Perf
     ensures performs { performed_of result (contents memories.new) ≡ performed (console_of d (contents memories.old)) request }
     ensures same { SameMemories memories.new memories.old }
 {
-    let keeping = |answer: ConsoleAnswer| Performed { device: d, answer };
     // The ring memory and the screen are taken out before they are read: of a field that is lent from where it stands a proof knows the
     // length alone.
     match request {
@@ -140,14 +149,14 @@ pub fn perform(request: Request, d: Device, memories: &mut Memories<'_>) -> Perf
             let ring = &mut *memories.ring;
             write_register(d, ring, index, value)
         }
-        Request::Read(index) => keeping(ConsoleAnswer::Value(
-            index,
-            adapter::read(d, index).unwrap_or(0),
-        )),
-        Request::Append(word) => keeping(append(memories.ring, word)),
+        Request::Read(index) => keeping(
+            d,
+            ConsoleAnswer::Value(index, adapter::read(d, index).unwrap_or(0)),
+        ),
+        Request::Append(word) => keeping(d, append(memories.ring, word)),
         Request::Pixel(place, pixel) => {
             set_word(memories.framebuffer, place, pixel);
-            keeping(ConsoleAnswer::Nothing)
+            keeping(d, ConsoleAnswer::Nothing)
         }
         Request::Run(budget) => run_device(
             d,
@@ -159,9 +168,9 @@ pub fn perform(request: Request, d: Device, memories: &mut Memories<'_>) -> Perf
         ),
         Request::Screen(place) => {
             let screen = &mut *memories.screen;
-            keeping(ConsoleAnswer::Shown(place, pixel_at(screen, place)))
+            keeping(d, ConsoleAnswer::Shown(place, pixel_at(screen, place)))
         }
-        Request::Bad => keeping(ConsoleAnswer::Bad),
+        Request::Bad => keeping(d, ConsoleAnswer::Bad),
     }
 }
 
